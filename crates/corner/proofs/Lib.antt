@@ -1,0 +1,2 @@
+-- Laws that crates above may cite.
+pub mod Turns

@@ -1,0 +1,3 @@
+-- Laws of floats.
+pub mod Finite
+pub mod Patterns

@@ -1,0 +1,2 @@
+-- Points of three floats.
+pub mod Point
