@@ -16,11 +16,11 @@ pub data Fan (opp : ℕ → ℕ) (c : ℕ) : ℕ → Type 0 where
 
 -- "a used live corner whose opposite is this one, with the edge running the other way". "The edge opposite a corner runs from
 -- next's vertex to previous's vertex."
-pub record Mate (live : ℕ → Type 0) (opp vtx : ℕ → ℕ) (c d : ℕ) : Type 0 where
-  pub alive : live d
-  pub back : opp d ≡ c
-  pub tail : vtx (next d) ≡ vtx (previous c)
-  pub head : vtx (previous d) ≡ vtx (next c)
+pub record Mate (live : ℕ → Type 0) (opp vtx : ℕ → ℕ) (c e : ℕ) : Type 0 where
+  pub over : live e
+  pub pair : opp e ≡ c
+  pub tail : vtx (next e) ≡ vtx (previous c)
+  pub head : vtx (previous e) ≡ vtx (next c)
 
 pub record WellFormed (t : Table) : Type 0 where
   -- "R1 Counts are within room; the corner count is a multiple of 3."

@@ -1,6 +1,6 @@
 -- The slots of one lent list: what a read finds, also past the end, and what a write leaves. A write past the end changes nothing.
 use Prim.Native.Nat.{ℕ, _+_, _*_}
-use mathlib.Core.List.{List}
+use mathlib.Core.List.{List, [], _∷_}
 use lib.Ieee.{Float, ofBits, binary32}
 use lib.ListN.{getD, set, replicate, length}
 use Rattle.corner.specs.Corner.{absent}
@@ -33,6 +33,11 @@ withPoint vp v p = set (set (set vp (3 * v) (p .x)) (3 * v + 1) (p .y)) (3 * v +
 -- a and b opposite to each other. Where one is absent its slot lies past every room, and nothing is written for it
 abbrev pub paired : List ℕ → ℕ → ℕ → List ℕ
 paired co a b = set (set co a b) b a
+
+-- v at each of the given slots
+abbrev pub relabel : List ℕ → ℕ → List ℕ → List ℕ
+relabel [] v l = l
+relabel (c ∷ cs) v l = relabel cs v (set l c v)
 
 -- three in a row from n on, as a new face has them
 abbrev pub three : List ℕ → (n a b c : ℕ) → List ℕ
