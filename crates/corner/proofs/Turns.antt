@@ -1,7 +1,7 @@
 -- Laws of the turns within a face. Assumes nothing.
 use mathlib.Core.Path.{_≡_, refl, ap, sym, _∙_}
 use mathlib.Core.Logic.{_≢_}
-use mathlib.Core.Bool.{Bool, true, false}
+use mathlib.Core.Bool.{Bool, true, false, not}
 use Prim.Native.Nat.{ℕ, zero, suc, _+_, _-_, _*_, _≤_, _<_, _/_, _%_}
 use native.Mathlib.Omega.{arith}
 use Rattle.corner.specs.Corner.{next, previous, turn}
@@ -118,6 +118,19 @@ previous-below c n m h = rw (← (next-next c)) (next-below (next c) n m (next-b
 pub turn-below : (left : Bool) (c n : ℕ) → n % 3 ≡ 0 → c < n → turn left c < n
 turn-below true c n m h = next-below c n m h
 turn-below false c n m h = previous-below c n m h
+
+-- the two turns are inverse, and a turn twice is the other turn
+pub turn-back : (left : Bool) (c : ℕ) → turn left (turn (not left) c) ≡ c
+turn-back true c = next-previous c
+turn-back false c = previous-next c
+
+pub turn-twice : (left : Bool) (c : ℕ) → turn left (turn left c) ≡ turn (not left) c
+turn-twice true c = next-next c
+turn-twice false c = previous-previous c
+
+pub not-turn-twice : (left : Bool) (c : ℕ) → turn (not left) (turn (not left) c) ≡ turn left c
+not-turn-twice true c = previous-previous c
+not-turn-twice false c = next-next c
 
 -- two corners with one face number
 pub data InFace (c d : ℕ) : Type 0 where

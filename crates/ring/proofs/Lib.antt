@@ -1,0 +1,4 @@
+-- Laws of the ring.
+pub mod Steps
+pub mod Labels
+pub mod Exact

@@ -1,0 +1,2 @@
+-- The ring of a corner, by opposites alone.
+pub mod Ring
