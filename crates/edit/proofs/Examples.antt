@@ -1,0 +1,106 @@
+-- Document 01, "Small meshes to compare": the marked edits, slot by slot. Assumes nothing.
+use Prim.Native.Nat.{ℕ, _*_}
+use mathlib.Core.Path.{_≡_, refl}
+use mathlib.Core.List.{List, [], _∷_, _++_}
+use lib.Ieee.{Float, nan}
+use lib.ListN.{replicate}
+use Rattle.corner.specs.Corner.{absent, next, previous}
+use Rattle.vertex.specs.declared.Point.{Point}
+use Rattle.table.specs.Slots.{nought}
+use Rattle.table.specs.Table.{Table, table}
+use Rattle.table.specs.Meshes.{meshA, meshB, meshT, one, two, three}
+use Rattle.ring.specs.Ring.{side, ring}
+use Rattle.edit.specs.Plans.{triangle, around}
+use Rattle.edit.specs.Flip.{flipVertices, flipOpposites, flipCorners, flipEdge}
+use Rattle.edit.specs.SplitFace.{faceVertices, faceOpposites, faceCorners, splitFace}
+use Rattle.edit.specs.SplitEdge.{splitPoints, splitCorners, innerVertices, innerOpposites, splitInnerEdge, boundaryVertices, boundaryOpposites, splitBoundaryEdge, splitEdge}
+use Rattle.edit.specs.Collapse.{winged, either, collapseVertices, collapseOpposites, collapseMarks, collapseCorners, collapseEdge}
+
+-- a table with blank slots on the end: c corners and v vertices more
+abbrev roomier : (c v : ℕ) → Table → Table
+roomier c v t =
+    table
+    (t .cornerVertex ++ replicate c 0)
+    (t .cornerOpposite ++ replicate c absent)
+    (t .cornerMark ++ replicate c 0)
+    (t .vertexCorner ++ replicate v absent)
+    (t .vertexMark ++ replicate v 0)
+    (t .vertexPoint ++ replicate (3 * v) nought)
+    (t .vertices)
+    (t .corners)
+
+-- the point of an edit
+module _ (x y z : Float) where
+  abbrev at : Point
+  at = record { x = x; y = y; z = z }
+
+  -- "B, flip 1: corners 1 2 3 1 3 0, pair 1-5, vertex corners 5, 0, 1, 2."
+  b-flip : flipEdge meshB 1
+      ≡ table
+      (1 ∷ 2 ∷ 3 ∷ 1 ∷ 3 ∷ 0 ∷ [])
+      (absent ∷ 5 ∷ absent ∷ absent ∷ absent ∷ 1 ∷ [])
+      (0 ∷ 0 ∷ 0 ∷ 0 ∷ 0 ∷ 0 ∷ [])
+      (5 ∷ 0 ∷ 1 ∷ 2 ∷ [])
+      (0 ∷ 0 ∷ 0 ∷ 0 ∷ [])
+      (meshB .vertexPoint)
+      4
+      6
+  unfolding flipEdge around flipVertices flipOpposites flipCorners next
+  b-flip = refl
+
+  -- "A, split face 0: corners 0 1 3 1 2 3 2 0 3; pairs 0-4, 3-7, 1-6; vertex corners 0, 1, 4, 2."
+  a-split-face : splitFace (roomier 6 1 meshA) 0 at
+      ≡ table
+      (0 ∷ 1 ∷ 3 ∷ 1 ∷ 2 ∷ 3 ∷ 2 ∷ 0 ∷ 3 ∷ [])
+      (4 ∷ 6 ∷ absent ∷ 7 ∷ 0 ∷ absent ∷ 1 ∷ 3 ∷ absent ∷ [])
+      (0 ∷ 0 ∷ 0 ∷ 0 ∷ 0 ∷ 0 ∷ 0 ∷ 0 ∷ 0 ∷ [])
+      (0 ∷ 1 ∷ 4 ∷ 2 ∷ [])
+      (0 ∷ 0 ∷ 0 ∷ 0 ∷ [])
+      (nought ∷ nought ∷ nought ∷ one ∷ nought ∷ nought ∷ two ∷ nought ∷ nought ∷ x ∷ y ∷ z ∷ [])
+      4
+      9
+  unfolding splitFace triangle faceVertices faceOpposites faceCorners next
+  a-split-face = refl
+
+  -- "A, split edge 0: corners 0 1 2 0 3 1, pair 2-4; vertex 3 has the old place of vertex 1."
+  a-split-edge : splitEdge (roomier 3 1 meshA) 0 at
+      ≡ table
+      (0 ∷ 1 ∷ 2 ∷ 0 ∷ 3 ∷ 1 ∷ [])
+      (absent ∷ absent ∷ 4 ∷ absent ∷ 2 ∷ absent ∷ [])
+      (0 ∷ 0 ∷ 0 ∷ 0 ∷ 0 ∷ 0 ∷ [])
+      (0 ∷ 1 ∷ 2 ∷ 4 ∷ [])
+      (0 ∷ 0 ∷ 0 ∷ 0 ∷ [])
+      (nought ∷ nought ∷ nought ∷ x ∷ y ∷ z ∷ two ∷ nought ∷ nought ∷ one ∷ nought ∷ nought ∷ [])
+      4
+      6
+  unfolding splitEdge splitBoundaryEdge triangle boundaryVertices boundaryOpposites splitCorners splitPoints ring side next previous
+  a-split-edge = refl
+
+  -- "B, split edge 1: corners 0 1 2 0 2 3 1 4 2 4 3 2; pairs 1-5, 0-7, 3-9, 6-10; vertex corners 3, 1, 2, 5, 7."
+  b-split-edge : splitEdge (roomier 6 1 meshB) 1 at
+      ≡ table
+      (0 ∷ 1 ∷ 2 ∷ 0 ∷ 2 ∷ 3 ∷ 1 ∷ 4 ∷ 2 ∷ 4 ∷ 3 ∷ 2 ∷ [])
+      (7 ∷ 5 ∷ absent ∷ 9 ∷ absent ∷ 1 ∷ 10 ∷ 0 ∷ absent ∷ 3 ∷ 6 ∷ absent ∷ [])
+      (0 ∷ 0 ∷ 0 ∷ 0 ∷ 0 ∷ 0 ∷ 0 ∷ 0 ∷ 0 ∷ 0 ∷ 0 ∷ 0 ∷ [])
+      (3 ∷ 1 ∷ 2 ∷ 5 ∷ 7 ∷ [])
+      (0 ∷ 0 ∷ 0 ∷ 0 ∷ 0 ∷ [])
+      (nought ∷ nought ∷ nought ∷ one ∷ nought ∷ nought ∷ x ∷ y ∷ z ∷ three ∷ nought ∷ nought ∷ two ∷ nought ∷ nought ∷ [])
+      5
+      12
+  unfolding splitEdge splitInnerEdge around innerVertices innerOpposites splitCorners splitPoints ring side next previous
+  b-split-edge = refl
+
+  -- "T, collapse 0: faces 0 and 3 and vertex 2 deleted; deleted corners 2 and 11 hold vertex 1; live corners 3 to 8 are 0 1 3 0 3 1; pairs
+  -- 3-6, 4-8, 5-7; corners of vertices 0, 1, 3 are 6, 8, 5."
+  t-collapse : collapseEdge meshT 0 at
+      ≡ table
+      (0 ∷ 1 ∷ 1 ∷ 0 ∷ 1 ∷ 3 ∷ 0 ∷ 3 ∷ 1 ∷ 1 ∷ 3 ∷ 1 ∷ [])
+      (10 ∷ 5 ∷ 7 ∷ 6 ∷ 8 ∷ 7 ∷ 3 ∷ 5 ∷ 4 ∷ 3 ∷ 0 ∷ 6 ∷ [])
+      (1 ∷ 1 ∷ 1 ∷ 0 ∷ 0 ∷ 0 ∷ 0 ∷ 0 ∷ 0 ∷ 1 ∷ 1 ∷ 1 ∷ [])
+      (6 ∷ 8 ∷ 11 ∷ 5 ∷ [])
+      (0 ∷ 0 ∷ 1 ∷ 0 ∷ [])
+      (nought ∷ nought ∷ nought ∷ x ∷ y ∷ z ∷ two ∷ nought ∷ nought ∷ three ∷ nought ∷ nought ∷ [])
+      4
+      12
+  unfolding collapseEdge around collapseVertices collapseOpposites collapseMarks collapseCorners winged either ring side next previous
+  t-collapse = refl

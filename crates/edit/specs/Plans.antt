@@ -1,0 +1,79 @@
+-- What an edit reads before it writes: the corners c0.., vertices v0.. and outer opposites o0.. of a face, or of the two faces at an edge.
+use Prim.Native.Nat.{ℕ}
+use mathlib.Core.Bool.{cond}
+use mathlib.Core.List.{List, [], _∷_}
+use lib.Dec.{eqb}
+use Rattle.corner.specs.Corner.{next}
+use Rattle.corner.specs.declared.Corner.{Corner}
+use Rattle.vertex.specs.declared.Vertex.{Vertex}
+use Rattle.table.specs.Slots.{vertexAt, oppositeAt}
+use Rattle.edit.specs.declared.Around.{Around}
+use Rattle.edit.specs.declared.Triangle.{Triangle}
+
+abbrev pub corner : ℕ → Corner
+corner n = record { 0 = n }
+
+abbrev pub vertex : ℕ → Vertex
+vertex n = record { 0 = n }
+
+-- The face of c0. ok is the opposite of ck.
+--
+--          v1
+--         /c1\
+--     o0 /    \ o2
+--       /c2__c0\
+--     v2   o1   v0
+unfoldable pub triangle : List ℕ → List ℕ → ℕ → Triangle
+triangle cv co c0 =
+    let c1 = next c0 in
+    let c2 = next c1 in
+    record {
+      c0 = corner c0;
+      c1 = corner c1;
+      c2 = corner c2;
+      v0 = vertex (vertexAt cv c0);
+      v1 = vertex (vertexAt cv c1);
+      v2 = vertex (vertexAt cv c2);
+      o0 = corner (oppositeAt co c0);
+      o1 = corner (oppositeAt co c1);
+    }
+
+-- The two faces at the edge that c1 names, which runs from v2 to v0. The face beyond it is c4, opposite c1, with c5 and c3.
+--
+--          v1
+--         /c1\
+--     o0 /    \ o2
+--       /c2__c0\
+--     v2        v0
+--       \c3--c5/
+--     o5 \    / o3
+--         \c4/
+--          v3
+unfoldable pub around : List ℕ → List ℕ → ℕ → Around
+around cv co c1 =
+    let c2 = next c1 in
+    let c0 = next c2 in
+    let c4 = oppositeAt co c1 in
+    let c5 = next c4 in
+    let c3 = next c5 in
+    record {
+      c0 = corner c0;
+      c1 = corner c1;
+      c2 = corner c2;
+      c3 = corner c3;
+      c4 = corner c4;
+      c5 = corner c5;
+      v0 = vertex (vertexAt cv c0);
+      v1 = vertex (vertexAt cv c1);
+      v2 = vertex (vertexAt cv c2);
+      v3 = vertex (vertexAt cv c4);
+      o0 = corner (oppositeAt co c0);
+      o2 = corner (oppositeAt co c2);
+      o3 = corner (oppositeAt co c3);
+      o5 = corner (oppositeAt co c5);
+    }
+
+-- a list without the corner a
+abbrev pub without : ℕ → List ℕ → List ℕ
+without a [] = []
+without a (c ∷ cs) = cond (eqb c a) (without a cs) (c ∷ without a cs)
