@@ -1,0 +1,7 @@
+-- What each edit keeps.
+pub mod Cut
+pub mod Collapse
+pub mod Flip
+pub mod Split
+pub mod Rim
+pub mod Count
