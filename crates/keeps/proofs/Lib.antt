@@ -5,3 +5,5 @@ pub mod Flip
 pub mod Split
 pub mod Rim
 pub mod Count
+pub mod Writes
+pub mod FlipTable
