@@ -7,3 +7,6 @@ pub mod Rim
 pub mod Count
 pub mod Writes
 pub mod FlipTable
+pub mod Grow1
+pub mod Grow6
+pub mod CutTable
