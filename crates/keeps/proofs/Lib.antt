@@ -10,3 +10,5 @@ pub mod FlipTable
 pub mod Grow1
 pub mod Grow6
 pub mod CutTable
+pub mod Without
+pub mod SplitTable
