@@ -12,3 +12,4 @@ pub mod Grow6
 pub mod CutTable
 pub mod Without
 pub mod SplitTable
+pub mod RimTable
