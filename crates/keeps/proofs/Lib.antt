@@ -13,3 +13,4 @@ pub mod CutTable
 pub mod Without
 pub mod SplitTable
 pub mod RimTable
+pub mod CollapseTable
