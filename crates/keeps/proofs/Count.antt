@@ -48,6 +48,9 @@ pub ind-iff : {A B : Type 0} (x : Dec A) (y : Dec B) → (A → B) → (B → A)
 ind-iff (yes a) y f g = sym (ind-yes y (f a))
 ind-iff (no a) y f g = sym (ind-no y (λ b. a (g b)))
 
+pub sum-one : (n : ℕ) (f : ℕ → ℕ) → sum (n + 1) f ≡ sum n f + f n
+sum-one n f = simp towards-suc
+
 pub sum-six : (n : ℕ) (f : ℕ → ℕ) → sum (n + 6) f ≡ sum n f + f n + f (n + 1) + f (n + 2) + f (n + 3) + f (n + 4) + f (n + 5)
 sum-six n f = simp towards-suc
 

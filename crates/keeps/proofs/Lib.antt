@@ -14,3 +14,5 @@ pub mod Without
 pub mod SplitTable
 pub mod RimTable
 pub mod CollapseTable
+pub mod Euler
+pub mod EulerFlip
