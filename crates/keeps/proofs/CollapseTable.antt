@@ -325,11 +325,11 @@ site t c K = record {
 }
 
 -- with the outer opposites there, a wing vertex gets the corner before the left one
-winged-left : (vc : List ℕ) (v left right : ℕ) → left ≢ absent → winged vc v left right ≡ set vc v (previous left)
+pub winged-left : (vc : List ℕ) (v left right : ℕ) → left ≢ absent → winged vc v left right ≡ set vc v (previous left)
 unfolding winged
 winged-left vc v left right n = rw (ne-eqb left absent n)
 
-either-left : (a b : ℕ) → a ≢ absent → either a b ≡ a
+pub either-left : (a b : ℕ) → a ≢ absent → either a b ≡ a
 unfolding either
 either-left a b n = rw (ne-eqb a absent n)
 

@@ -16,3 +16,7 @@ pub mod RimTable
 pub mod CollapseTable
 pub mod Euler
 pub mod EulerFlip
+pub mod EulerSplit
+pub mod EulerCut
+pub mod EulerRim
+pub mod EulerCollapse
