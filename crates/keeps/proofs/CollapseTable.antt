@@ -343,10 +343,11 @@ collapse-wf t Z W c K at f =
     let n3 : opposite t (next (next c4)) ≢ absent = t11 L A in
     let n0 : opposite t (next (next c)) ≢ absent = t26 L A in
     let n5 : opposite t (next c4) ≢ absent = t10 L A in
-    rw
-    (winged-left (t .vertexCorner) (vertex t c4) (opposite t (next (next c4))) (opposite t (next c4)) n3,
-    winged-left _ (vertex t c) (opposite t (next (next c))) (opposite t (next c)) n0,
-    either-left (opposite t (next c4)) (opposite t (next c)) n5,
-    winged-left _ (vertex t (next c)) (opposite t (next c4)) _ n5)
+    rw (
+      winged-left (t .vertexCorner) (vertex t c4) (opposite t (next (next c4))) (opposite t (next c4)) n3,
+      winged-left _ (vertex t c) (opposite t (next (next c))) (opposite t (next c)) n0,
+      either-left (opposite t (next c4)) (opposite t (next c)) n5,
+      winged-left _ (vertex t (next c)) (opposite t (next c4)) _ n5,
+    )
     (u-wf t Z W c (next c) (next (next c)) c4 (next c4) (next (next c4))
     (opposite t (next c)) (opposite t (next (next c))) (opposite t (next c4)) (opposite t (next (next c4))) A at f)

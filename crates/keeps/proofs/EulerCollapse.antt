@@ -211,10 +211,11 @@ collapse-euler t Z W c S at f =
     let c4 : ℕ = opposite t c in
     let A = site t c S in
     let L : Linked (Live t) (opposite t) (vertex t) = table-linked t Z W in
-    rw
-    (winged-left (t .vertexCorner) (vertex t c4) (opposite t (next (next c4))) (opposite t (next c4)) (t11 L A),
-    winged-left _ (vertex t c) (opposite t (next (next c))) (opposite t (next c)) (t26 L A),
-    either-left (opposite t (next c4)) (opposite t (next c)) (t10 L A),
-    winged-left _ (vertex t (next c)) (opposite t (next c4)) _ (t10 L A))
+    rw (
+      winged-left (t .vertexCorner) (vertex t c4) (opposite t (next (next c4))) (opposite t (next c4)) (t11 L A),
+      winged-left _ (vertex t c) (opposite t (next (next c))) (opposite t (next c)) (t26 L A),
+      either-left (opposite t (next c4)) (opposite t (next c)) (t10 L A),
+      winged-left _ (vertex t (next c)) (opposite t (next c4)) _ (t10 L A),
+    )
     (same-euler t _ (euler t Z W c (next c) (next (next c)) c4 (next c4) (next (next c4))
     (opposite t (next c)) (opposite t (next (next c))) (opposite t (next c4)) (opposite t (next (next c4))) A at f))

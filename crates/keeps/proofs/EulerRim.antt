@@ -100,7 +100,7 @@ rim-euler t Z W r s c h o at fine =
     let good : (v : ℕ) → LiveV1 t v → finitePoint (pointAt vp′ v) ≡ true = split-finite t W s Z (vertex t c2) (W .vertexLive c2 l2) at fine in
     let new : Table = t′ t Z W r s c1 c2 c0 f0 l1 l2 l0 b1 vp′ good in
     let C : Rim (Live t) (Live new) (opposite t) (opposite new) (vertex t) (vertex new) c1 c2 c0 (t .corners) (t .corners + 1) (t .corners + 2) (t .vertices) =
-        the-rim t Z W r s c1 c2 c0 f0 l1 l2 l0 b1 vp′ good in
+    the-rim t Z W r s c1 c2 c0 f0 l1 l2 l0 b1 vp′ good in
     let a : ind (liveV? new (t .vertices)) ≡ 1 = ind-yes (liveV? new (t .vertices)) (new-one t W s) in
     let v : sum (t .vertices) (λ v. ind (liveV? new v)) ≡ sum (t .vertices) (λ v. ind (liveV? t v)) = sum-ext (t .vertices) _ _ (λ v l. ind-iff (liveV? new v) (liveV? t v)
     (λ k. was-vertex t W s v k (omega arith)) (old-vertex t W s v)) in

@@ -406,13 +406,13 @@ pub split-wf : (t : Table) → Shaped t → WellFormed t → t .corners + 6 ≤ 
 unfolding splitInnerEdge around innerVertices innerOpposites splitCorners cs cv0 cv′ co0 o1 b5 co′ vc′
 split-wf t Z W r s c h m at f =
     let A : SplitSite (Live t) (opposite t) (vertex t) c (next c) (next (next c)) (opposite t c) (next (opposite t c)) (next (next (opposite t c))) =
-        record {
-          f = face3 c (next c) (next (next c)) refl refl;
-          g = face3 (opposite t c) (next (opposite t c)) (next (next (opposite t c))) refl refl;
-          alive = h;
-          o1 = refl;
-          t1 = m;
-        } in
+    record {
+      f = face3 c (next c) (next (next c)) refl refl;
+      g = face3 (opposite t c) (next (opposite t c)) (next (next (opposite t c))) refl refl;
+      alive = h;
+      o1 = refl;
+      t1 = m;
+    } in
     let L : Linked (Live t) (opposite t) (vertex t) = table-linked t Z W in
     simp six-push6
     (split-table t Z W r s c (next c) (next (next c)) (opposite t c) (next (opposite t c)) (next (next (opposite t c))) A

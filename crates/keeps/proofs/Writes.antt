@@ -89,10 +89,10 @@ module _ (vp : List Float) (u : ℕ) (p : Point) where
       let lb : length b ≡ length vp = length-set a (3 * u + 1) (p .y) ∙ la in
       let z : getD (set b (3 * u + 2) (p .z)) (3 * u + 2) nought ≡ p .z = getD-set-same b (3 * u + 2) (p .z) nought (omega arith) in
       let y : getD (set b (3 * u + 2) (p .z)) (3 * u + 1) nought ≡ p .y =
-          getD-set-other b (3 * u + 2) (3 * u + 1) (p .z) nought (omega arith) ∙ getD-set-same a (3 * u + 1) (p .y) nought (omega arith) in
+      getD-set-other b (3 * u + 2) (3 * u + 1) (p .z) nought (omega arith) ∙ getD-set-same a (3 * u + 1) (p .y) nought (omega arith) in
       let x : getD (set b (3 * u + 2) (p .z)) (3 * u) nought ≡ p .x =
-          getD-set-other b (3 * u + 2) (3 * u) (p .z) nought (omega arith) ∙ getD-set-other a (3 * u + 1) (3 * u) (p .y) nought (omega arith)
-          ∙ getD-set-same vp (3 * u) (p .x) nought (omega arith) in
+      getD-set-other b (3 * u + 2) (3 * u) (p .z) nought (omega arith) ∙ getD-set-other a (3 * u + 1) (3 * u) (p .y) nought (omega arith)
+      ∙ getD-set-same vp (3 * u) (p .x) nought (omega arith) in
       rw (x, y, z)
 
   other : (i : ℕ) → i ≢ 3 * u → i ≢ 3 * u + 1 → i ≢ 3 * u + 2 → getD (withPoint vp u p) i nought ≡ getD vp i nought
@@ -103,10 +103,11 @@ module _ (vp : List Float) (u : ℕ) (p : Point) where
 
   pub placed-other : (v : ℕ) → v ≢ u → pointAt (withPoint vp u p) v ≡ pointAt vp v
   placed-other v n =
-      rw
-      (other (3 * v) (omega arith) (omega arith) (omega arith),
-      other (3 * v + 1) (omega arith) (omega arith) (omega arith),
-      other (3 * v + 2) (omega arith) (omega arith) (omega arith))
+      rw (
+        other (3 * v) (omega arith) (omega arith) (omega arith),
+        other (3 * v + 1) (omega arith) (omega arith) (omega arith),
+        other (3 * v + 2) (omega arith) (omega arith) (omega arith),
+      )
 
   pub length-placed : length (withPoint vp u p) ≡ length vp
   length-placed = simp length-set

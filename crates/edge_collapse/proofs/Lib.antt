@@ -1,0 +1,3 @@
+-- Laws of the collapse tests.
+pub mod Loops
+pub mod Tests

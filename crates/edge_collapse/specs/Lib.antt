@@ -1,0 +1,3 @@
+-- The two collapse tests.
+pub mod EdgeCollapse
+pub mod Loops

@@ -1,0 +1,148 @@
+// edge_collapse.rs: the two collapse tests, by walks along rings with no memory. A neighbour of the vertex at corner d stands at the corner
+// before d, which is the opposite that the walk has just crossed to. Cost: the product of the two rings.
+ghost use mathlib.Core.Path.{_≡_};
+ghost use mathlib.Core.Bool.{cond, true};
+ghost use mathlib.Core.List.{List};
+ghost use Prim.Native.Nat.{ℕ, _≤_, _<_};
+ghost use lib.Dec.{eqb, ltb};
+ghost use lib.Ieee.{Float};
+ghost use Rattle.corner.specs.Corner.{absent, previous};
+ghost use Rattle.table.specs.Slots.{vertexAt};
+ghost use Rattle.table.specs.Table.{table};
+ghost use Rattle.ring.specs.Ring.{side};
+ghost use Rattle.edge_collapse.specs.EdgeCollapse.{meetsBorder, neighbours, timesIn, commonIn, affectsBoundary, unsafe};
+ghost use Rattle.edge_collapse.specs.Loops.{Counted};
+use corner::Corner;
+
+// ---- along one ring
+
+// Whether the walk to the left from c0 meets a border.
+fn meets_border(co: &[u32], n: u32, c0: Corner) -> bool
+    ensures { λ r. ⌜ r ≡ meetsBorder (now (co .entry)) n (c0 .0) ⌝ }
+{
+    let first = c0.previous_index();
+    let mut via = c0.next_index();
+    let mut rest = n;
+    while rest > 0 {
+        let o = table::at(co, via, 4294967295);
+        if o == 4294967295 {
+            return true;
+        }
+        if o as usize == first {
+            return false;
+        }
+        via = Corner(o).previous_index();
+        rest -= 1;
+    }
+    false
+}
+
+fn one_if(b: bool) -> u32
+    ensures { λ r. ⌜ (r ≡ cond b 1 0) × (r ≤ 1) ⌝ }
+{
+    if b { 1 } else { 0 }
+}
+
+// How often x occurs among the neighbours that the walk to the left from c0 passes after its first.
+fn times_side(x: u32, cv: &[u32], co: &[u32], c0: Corner, n: u32) -> u32
+    ensures { λ r. ⌜ Counted (λ y. eqb y x) (λ d. vertexAt (now (cv .entry)) (previous d)) (side true (now (co .entry)) (c0 .0) n (c0 .0)) n r ⌝ }
+{
+    let first = c0.previous_index();
+    let mut via = c0.next_index();
+    let mut rest = n;
+    let mut times = 0;
+    while rest > 0 {
+        let o = table::at(co, via, 4294967295);
+        if o == 4294967295 {
+            return times;
+        }
+        if o as usize == first {
+            return times;
+        }
+        times += one_if(table::at(cv, o as usize, 0) == x);
+        via = Corner(o).previous_index();
+        rest -= 1;
+    }
+    times
+}
+
+// How often x occurs in the ring of neighbours from c.
+fn times(x: u32, cv: &[u32], co: &[u32], n: u32, c: Corner) -> u32
+    requires { ⌜ n < absent ⌝ }
+    ensures { λ r. ⌜ r ≡ timesIn (neighbours (now (cv .entry)) (now (co .entry)) n (c .0)) x ⌝ }
+{
+    let rest = times_side(x, cv, co, c, n);
+    one_if(table::at(cv, c.previous_index(), 0) == x) + rest
+}
+
+// Whether x occurs in the ring of neighbours from c.
+fn occurs(x: u32, cv: &[u32], co: &[u32], n: u32, c: Corner) -> bool
+    requires { ⌜ n < absent ⌝ }
+    ensures { λ r. ⌜ r ≡ ltb 0 (timesIn (neighbours (now (cv .entry)) (now (co .entry)) n (c .0)) x) ⌝ }
+{
+    0 < times(x, cv, co, n, c)
+}
+
+// How many neighbours that the walk to the left from c0 passes after its first occur in the ring from `kept`.
+fn common_side(kept: Corner, cv: &[u32], co: &[u32], c0: Corner, n: u32) -> u32
+    requires { ⌜ n < absent ⌝ }
+    ensures { λ r. ⌜ Counted (λ x. ltb 0 (timesIn (neighbours (now (cv .entry)) (now (co .entry)) n (kept .0)) x)) (λ d. vertexAt (now (cv .entry)) (previous d)) (side true (now (co .entry)) (c0 .0) n (c0 .0)) n r ⌝ }
+{
+    let k = kept.0;
+    let first = c0.previous_index();
+    let mut via = c0.next_index();
+    let mut rest = n;
+    let mut times = 0;
+    while rest > 0 {
+        let o = table::at(co, via, 4294967295);
+        if o == 4294967295 {
+            return times;
+        }
+        if o as usize == first {
+            return times;
+        }
+        times += one_if(occurs(table::at(cv, o as usize, 0), cv, co, n, Corner(k)));
+        via = Corner(o).previous_index();
+        rest -= 1;
+    }
+    times
+}
+
+// How many neighbours in the ring from `lost` occur in the ring from `kept`.
+fn common(kept: Corner, lost: Corner, cv: &[u32], co: &[u32], n: u32) -> u32
+    requires { ⌜ n < absent ⌝ }
+    ensures { λ r. ⌜ r ≡ commonIn (neighbours (now (cv .entry)) (now (co .entry)) n (kept .0)) (neighbours (now (cv .entry)) (now (co .entry)) n (lost .0)) ⌝ }
+{
+    let rest = common_side(kept, cv, co, lost, n);
+    one_if(occurs(table::at(cv, lost.previous_index(), 0), cv, co, n, kept)) + rest
+}
+
+// ---- the two tests of the edge of c
+
+// "any edge at either end vertex lacks an opposite"
+pub fn will_collapse_affect_boundary(cv: &[u32], co: &[u32], vc: &[u32], n: u32, c: Corner) -> bool
+    ensures { λ r. ⌜ ((cm vm : List ℕ) (vp : List Float) (i : ℕ) → r ≡ affectsBoundary (table (now (cv .entry)) (now (co .entry)) cm (now (vc .entry)) vm vp i n) (c .0)) ⌝ }
+{
+    let kept = table::at(cv, c.next_index(), 0);
+    let lost = table::at(cv, c.previous_index(), 0);
+    if meets_border(co, n, Corner(table::at(vc, kept as usize, 4294967295))) {
+        return true;
+    }
+    meets_border(co, n, Corner(table::at(vc, lost as usize, 4294967295)))
+}
+
+// "a third live face holds both end vertices, or the number of entries in the deleted vertex's neighbour ring that occur in the kept vertex's
+// ring isn't exactly two"
+pub fn is_topologically_unsafe(cv: &[u32], co: &[u32], vc: &[u32], n: u32, c: Corner) -> bool
+    requires { ⌜ n < absent ⌝ }
+    ensures { λ r. ⌜ ((cm vm : List ℕ) (vp : List Float) (i : ℕ) → r ≡ unsafe (table (now (cv .entry)) (now (co .entry)) cm (now (vc .entry)) vm vp i n) (c .0)) ⌝ }
+{
+    let kept = table::at(cv, c.next_index(), 0);
+    let lost = table::at(cv, c.previous_index(), 0);
+    let k = Corner(table::at(vc, kept as usize, 4294967295));
+    let l = Corner(table::at(vc, lost as usize, 4294967295));
+    if 1 < times(lost, cv, co, n, k) {
+        return true;
+    }
+    common(k, l, cv, co, n) != 2
+}
