@@ -20,3 +20,4 @@ pub mod EulerSplit
 pub mod EulerCut
 pub mod EulerRim
 pub mod EulerCollapse
+pub mod SafeBy
