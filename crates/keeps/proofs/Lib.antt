@@ -21,3 +21,5 @@ pub mod EulerCut
 pub mod EulerRim
 pub mod EulerCollapse
 pub mod SafeBy
+pub mod Used
+pub mod Kept

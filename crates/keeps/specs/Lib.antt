@@ -1,0 +1,2 @@
+-- What an edit keeps, and what it touches.
+pub mod Keeps
