@@ -30,13 +30,15 @@ module _ (t : Table) (Z : Shaped t) (W : WellFormed t) (c : ℕ) (l : Live t c) 
   there = inner t Z W c l e
 
   rings : (d : ℕ) → Live t d → (vertex t d ≡ vertex t (next c)) ⊎ (vertex t d ≡ vertex t (next (next c))) → (opposite t (next d) ≢ absent) × (opposite t (previous d) ≢ absent)
-  rings d h (inl k) =
-      (λ z. unaffected t Z W c l e .0 (record { at = d; lives = h; of = k; lacks = inl z }),
-       λ z. unaffected t Z W c l e .0 (record { at = d; lives = h; of = k; lacks = inr z }))
+  rings d h (inl k) = (
+    λ z. unaffected t Z W c l e .0 (record { at = d; lives = h; of = k; lacks = inl z }),
+    λ z. unaffected t Z W c l e .0 (record { at = d; lives = h; of = k; lacks = inr z }),
+  )
   rings d h (inr k) =
-      let k′ : vertex t d ≡ vertex t (previous c) = k ∙ ap (vertex t) (next-next c) in
-      (λ z. unaffected t Z W c l e .1 (record { at = d; lives = h; of = k′; lacks = inl z }),
-       λ z. unaffected t Z W c l e .1 (record { at = d; lives = h; of = k′; lacks = inr z }))
+      let k′ : vertex t d ≡ vertex t (previous c) = k ∙ ap (vertex t) (next-next c) in (
+        λ z. unaffected t Z W c l e .1 (record { at = d; lives = h; of = k′; lacks = inl z }),
+        λ z. unaffected t Z W c l e .1 (record { at = d; lives = h; of = k′; lacks = inr z }),
+      )
 
   -- a corner in neither of the edge's two faces
   off : (d : ℕ) → ¬ S d → d / 3 ≢ c / 3

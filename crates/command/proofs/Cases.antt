@@ -1,0 +1,57 @@
+-- What is decoded at each kind, and the checks by what was found. Assumes nothing.
+use mathlib.Core.Path.{_≡_, refl, sym, ap, _∙_}
+use mathlib.Core.Bool.{Bool, true, false, cond, not}
+use mathlib.Core.List.{List}
+use Prim.Native.Nat.{ℕ, _+_, _<_, _≤_}
+use borrow.Author.Tests.{ne-eqb}
+use lib.Dec.{eqb, ltb}
+use Rattle.corner.specs.Corner.{absent}
+use Rattle.vertex.specs.declared.Point.{Point}
+use Rattle.table.specs.Table.{Table, vertex, opposite}
+use Rattle.table.specs.Slots.{vertexAt, oppositeAt, markAt}
+use Rattle.command.specs.Decode.{decoded}
+use Rattle.command.specs.Answers.{first, when, targeted, roomFor, sameWings, flipAnswer}
+use Rattle.command.specs.declared.Edit.{Edit}
+use Rattle.command.specs.declared.Edit.the-variants.{Collapse, Flip, SplitEdge, SplitFace, Unknown}
+
+module _ (k t : ℕ) (p : Point) where
+  pub collapses : (q : Point) → k ≡ 1 → q ≡ p → Collapse (record { 0 = t }) q ≡ decoded k t p
+  unfolding decoded
+  collapses q e h = rw (e, h)
+
+  pub flips : k ≡ 2 → Flip (record { 0 = t }) ≡ decoded k t p
+  unfolding decoded
+  flips e = rw e
+
+  pub splits-edge : (q : Point) → k ≡ 3 → q ≡ p → SplitEdge (record { 0 = t }) q ≡ decoded k t p
+  unfolding decoded
+  splits-edge q e h = rw (e, h)
+
+  pub splits-face : (q : Point) → k ≡ 4 → q ≡ p → SplitFace (record { 0 = t }) q ≡ decoded k t p
+  unfolding decoded
+  splits-face q e h = rw (e, h)
+
+  pub unknown : (k ≡ 1 → ⊥) → (k ≡ 2 → ⊥) → (k ≡ 3 → ⊥) → (k ≡ 4 → ⊥) → Unknown ≡ decoded k t p
+  unfolding decoded
+  unknown a b c d = rw (ne-eqb k 1 a, ne-eqb k 2 b, ne-eqb k 3 c, ne-eqb k 4 d)
+
+pub used-target : (used : Bool) (m r : ℕ) → used ≡ true → r ≡ when (not (eqb m 0)) 10 → r ≡ targeted used m
+unfolding targeted
+used-target used m r e h = rw e h
+
+pub no-target : (used : Bool) (m : ℕ) → used ≡ false → 9 ≡ targeted used m
+unfolding targeted
+no-target used m e = rw e
+
+pub room-by : (nv rv nc rc n a b r : ℕ) → a ≡ when (ltb rv (nv + 1)) 5 → b ≡ when (ltb rc (nc + n)) 6 → r ≡ first a b → r ≡ roomFor nv rv nc rc n
+unfolding roomFor
+room-by nv rv nc rc n a b r p q e = rw (← p, ← q) e
+
+module _ (t : Table) (c : ℕ) where
+  pub wings-by : (o v w r : ℕ) → o ≡ opposite t c → v ≡ vertex t c → w ≡ vertexAt (t .cornerVertex) o → r ≡ when (eqb v w) 12 → r ≡ sameWings t c
+  wings-by o v w r p q s e = rw (← q, ← p, ← s) e
+
+  pub flip-by : (m o a b w x r : ℕ) → m ≡ markAt (t .cornerMark) c → o ≡ opposite t c → a ≡ targeted (ltb c (t .corners)) m → b ≡ when (eqb o absent) 11
+      → w ≡ sameWings t c → x ≡ first b w → r ≡ first a x → r ≡ flipAnswer t c
+  unfolding flipAnswer
+  flip-by m o a b w x r p q s u v y e = rw (← v, ← p, ← q, ← s, ← u, ← y) e

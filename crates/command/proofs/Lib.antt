@@ -1,0 +1,4 @@
+-- Laws of a command.
+pub mod Chain
+pub mod Passed
+pub mod Cases
