@@ -1,2 +1,3 @@
 -- Laws and worked examples of the edits.
+pub mod Made
 pub mod Examples
