@@ -1,0 +1,38 @@
+use Rattle.edit.specs.SplitEdge.{boundaryOpposites}
+use borrow.Author.Needs.{needs}
+use Rattle.edit.proofs.boundary_opposites.Statement.{statement}
+use Rattle.edit.proofs.boundary_opposites.Tie as tie
+
+put-three-requires : tie.Need-put-three-requires
+put-three-requires c κs = search needs
+
+add-t9 : tie.Need-add-t9
+add-t9 c = search needs
+
+make-corners-opposite-requires : tie.Need-make-corners-opposite-requires
+make-corners-opposite-requires c κs = search needs
+
+add-t9-2 : tie.Need-add-t9-2
+add-t9-2 c = search needs
+
+set-opposite-relationship-requires : tie.Need-set-opposite-relationship-requires
+set-opposite-relationship-requires c κs = search needs
+
+same-length : tie.Need-same-length
+same-length c = search needs
+
+returns : tie.Need-returns
+unfolding boundaryOpposites
+returns c = cc
+
+pub boundary-opposites-spec : {M : Type 1} → statement M
+boundary-opposites-spec =
+    tie.close
+    (tie.spec
+    put-three-requires
+    add-t9
+    make-corners-opposite-requires
+    add-t9-2
+    set-opposite-relationship-requires
+    same-length
+    returns)

@@ -1,0 +1,38 @@
+use Rattle.edit.specs.Collapse.{collapseCorners}
+use borrow.Author.Needs.{needs}
+use Rattle.edit.proofs.collapse_corners.Statement.{statement}
+use Rattle.edit.proofs.collapse_corners.Tie as tie
+
+set-corner-for-wing-vertex-requires : tie.Need-set-corner-for-wing-vertex-requires
+set-corner-for-wing-vertex-requires c κs = search needs
+
+set-corner-for-wing-vertex-requires-2 : tie.Need-set-corner-for-wing-vertex-requires-2
+set-corner-for-wing-vertex-requires-2 c κs = search needs
+
+either-requires : tie.Need-either-requires
+either-requires c κs = search needs
+
+either-requires-2 : tie.Need-either-requires-2
+either-requires-2 c κs = search needs
+
+set-corner-for-wing-vertex-requires-3 : tie.Need-set-corner-for-wing-vertex-requires-3
+set-corner-for-wing-vertex-requires-3 c κs = search needs
+
+same-length : tie.Need-same-length
+same-length c = search needs
+
+returns : tie.Need-returns
+unfolding collapseCorners
+returns c = cc
+
+pub collapse-corners-spec : {M : Type 1} → statement M
+collapse-corners-spec =
+    tie.close
+    (tie.spec
+    set-corner-for-wing-vertex-requires
+    set-corner-for-wing-vertex-requires-2
+    either-requires
+    either-requires-2
+    set-corner-for-wing-vertex-requires-3
+    same-length
+    returns)

@@ -1,0 +1,22 @@
+use Rattle.edit.specs.Collapse.{collapseOpposites}
+use borrow.Author.Needs.{needs}
+use Rattle.edit.proofs.collapse_opposites.Statement.{statement}
+use Rattle.edit.proofs.collapse_opposites.Tie as tie
+
+make-corners-opposite-requires : tie.Need-make-corners-opposite-requires
+make-corners-opposite-requires c κs = search needs
+
+make-corners-opposite-requires-2 : tie.Need-make-corners-opposite-requires-2
+make-corners-opposite-requires-2 c κs = search needs
+
+same-length : tie.Need-same-length
+same-length c = search needs
+
+returns : tie.Need-returns
+unfolding collapseOpposites
+returns c = cc
+
+pub collapse-opposites-spec : {M : Type 1} → statement M
+collapse-opposites-spec =
+    tie.close
+    (tie.spec make-corners-opposite-requires make-corners-opposite-requires-2 same-length returns)

@@ -1,0 +1,20 @@
+use Rattle.edit.specs.Collapse.{collapseVertices}
+use borrow.Author.Needs.{needs}
+use Rattle.edit.proofs.collapse_vertices.Statement.{statement}
+use Rattle.edit.proofs.collapse_vertices.Tie as tie
+
+corner-of-requires : tie.Need-corner-of-requires
+corner-of-requires c κs = search needs
+
+label-requires : tie.Need-label-requires
+label-requires c κs = search needs
+
+same-length : tie.Need-same-length
+same-length c = search needs
+
+returns : tie.Need-returns
+unfolding collapseVertices
+returns c = cc
+
+pub collapse-vertices-spec : {M : Type 1} → statement M
+collapse-vertices-spec = tie.close (tie.spec corner-of-requires label-requires same-length returns)

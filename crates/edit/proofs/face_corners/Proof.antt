@@ -1,0 +1,24 @@
+use Rattle.edit.specs.SplitFace.{faceCorners}
+use borrow.Author.Needs.{needs}
+use Rattle.edit.proofs.face_corners.Statement.{statement}
+use Rattle.edit.proofs.face_corners.Tie as tie
+
+set-corner-requires : tie.Need-set-corner-requires
+set-corner-requires c κs = search needs
+
+add-t10 : tie.Need-add-t10
+add-t10 c = search needs
+
+set-corner-requires-2 : tie.Need-set-corner-requires-2
+set-corner-requires-2 c κs = search needs
+
+same-length : tie.Need-same-length
+same-length c = search needs
+
+returns : tie.Need-returns
+unfolding faceCorners
+returns c = cc
+
+pub face-corners-spec : {M : Type 1} → statement M
+face-corners-spec =
+    tie.close (tie.spec set-corner-requires add-t10 set-corner-requires-2 same-length returns)

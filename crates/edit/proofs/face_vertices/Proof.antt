@@ -1,0 +1,20 @@
+use Rattle.edit.specs.SplitFace.{faceVertices}
+use borrow.Author.Needs.{needs}
+use Rattle.edit.proofs.face_vertices.Statement.{statement}
+use Rattle.edit.proofs.face_vertices.Tie as tie
+
+put-six-requires : tie.Need-put-six-requires
+put-six-requires c κs = search needs
+
+set-vertex-requires : tie.Need-set-vertex-requires
+set-vertex-requires c κs = search needs
+
+same-length : tie.Need-same-length
+same-length c = search needs
+
+returns : tie.Need-returns
+unfolding faceVertices
+returns c = cc
+
+pub face-vertices-spec : {M : Type 1} → statement M
+face-vertices-spec = tie.close (tie.spec put-six-requires set-vertex-requires same-length returns)
