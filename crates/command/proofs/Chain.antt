@@ -56,3 +56,11 @@ first-same a b x y p q = go (ℕ-discrete a 0)
     go : Dec (a ≡ 0) → cond (eqb a 0) b a ≡ cond (eqb x 0) y x
     go (yes e) = rw (eq-eqb a 0 e, eq-eqb x 0 (sym p ∙ e)) (q e)
     go (no e) = rw (ne-eqb a 0 e, ne-eqb x 0 (λ z. e (p ∙ z))) p
+
+pub first-assoc : (a b c : ℕ) → first (first a b) c ≡ first a (first b c)
+unfolding first
+first-assoc a b c = go (ℕ-discrete a 0)
+  where
+    go : Dec (a ≡ 0) → cond (eqb (cond (eqb a 0) b a) 0) c (cond (eqb a 0) b a) ≡ cond (eqb a 0) (cond (eqb b 0) c b) a
+    go (yes e) = rw (eq-eqb a 0 e)
+    go (no e) = rw (ne-eqb a 0 e, ne-eqb a 0 e)

@@ -1,5 +1,6 @@
 // One command of a script: decoded from five words, answered, and done where its answer is 0.
 ghost use mathlib.Core.Path.{_≡_};
+ghost use mathlib.Core.Bool.{cond};
 ghost use mathlib.Core.List.{List};
 ghost use Prim.Native.Nat.{ℕ, _+_, _*_, _<_, _≤_};
 ghost use lib.Dec.{eqb};
@@ -11,6 +12,7 @@ ghost use Rattle.command.specs.Decode.{commandAt};
 ghost use Rattle.command.specs.Answers.{first as firstOf, when as whenOf, targeted as targetedOf, roomFor, flipAnswer, collapseAnswer, splitEdgeAnswer, splitFaceAnswer, sameWings};
 use corner::Corner;
 use corner::Face;
+use table::Counts;
 use vertex::Point;
 
 // An edit is one of four things, three of them carrying a point. Any other kind is unknown.
@@ -100,4 +102,76 @@ pub fn flip_answer(cv: &[u32], co: &[u32], cm: &[u32], corners: u32, c: Corner) 
     let b = when(table::at(co, c.0 as usize, 4294967295) == 4294967295, 11);
     let w = same_wings(cv, co, c);
     first(a, first(b, w))
+}
+
+// "An inner edge or a face needs 1 vertex and 6 corners; a border edge 1 and 3."
+fn corners_for(o: u32) -> u32
+    ensures { λ r. ⌜ r ≡ cond (eqb o absent) 3 6 ⌝ }
+{
+    if o == 4294967295 { 3 } else { 6 }
+}
+
+pub fn split_edge_answer(
+    co: &[u32],
+    cm: &[u32],
+    vroom: usize,
+    counts: Counts,
+    c: Corner,
+    p: Point,
+) -> u32
+    ensures { λ r. ⌜ ((cv vc vm : List ℕ) (vp : List Float) → length vm ≡ vroom →
+        r ≡ splitEdgeAnswer (table cv (now (co .entry)) (now (cm .entry)) vc vm vp (counts .vertices) (counts .corners)) (c .0) p) ⌝ }
+{
+    let a = targeted(c.0 < counts.corners, table::at(cm, c.0 as usize, 1));
+    let good = p.finite();
+    let b = when(!good, 4);
+    let n = corners_for(table::at(co, c.0 as usize, 4294967295));
+    let d = room_for(counts.vertices, vroom, counts.corners, cm.len(), n);
+    first(a, first(b, d))
+}
+
+pub fn split_face_answer(cm: &[u32], vroom: usize, counts: Counts, f: Face, p: Point) -> u32
+    ensures { λ r. ⌜ ((cv co vc vm : List ℕ) (vp : List Float) → length vm ≡ vroom →
+        r ≡ splitFaceAnswer (table cv co (now (cm .entry)) vc vm vp (counts .vertices) (counts .corners)) (f .0) p) ⌝ }
+{
+    let a = targeted(
+        f.0 < counts.corners / 3,
+        table::at(cm, 3 * (f.0 as usize), 1),
+    );
+    let good = p.finite();
+    let b = when(!good, 4);
+    let d = room_for(counts.vertices, vroom, counts.corners, cm.len(), 6);
+    first(a, first(b, d))
+}
+
+// The rings are walked only where no cheaper check refuses.
+pub fn collapse_answer(
+    cv: &[u32],
+    co: &[u32],
+    cm: &[u32],
+    vc: &[u32],
+    corners: u32,
+    c: Corner,
+    p: Point,
+) -> u32
+    requires { ⌜ corners < absent ⌝ }
+    ensures { λ r. ⌜ ((vm : List ℕ) (vp : List Float) (i : ℕ) → r ≡ collapseAnswer (table (now (cv .entry)) (now (co .entry)) (now (cm .entry)) (now (vc .entry)) vm vp i corners) (c .0) p) ⌝ }
+{
+    let t = targeted(c.0 < corners, table::at(cm, c.0 as usize, 1));
+    let good = p.finite();
+    let a = first(t, when(!good, 4));
+    if a != 0 {
+        return a;
+    }
+    if edge_collapse::will_collapse_affect_boundary(cv, co, vc, corners, c) {
+        return 11;
+    }
+    let w = same_wings(cv, co, c);
+    if w != 0 {
+        return w;
+    }
+    when(
+        edge_collapse::is_topologically_unsafe(cv, co, vc, corners, c),
+        13,
+    )
 }
