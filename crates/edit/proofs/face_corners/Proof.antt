@@ -1,4 +1,5 @@
-use Rattle.edit.specs.SplitFace.{faceCorners}
+use Rattle.edit.proofs.Writes.{face-corners-made}
+use denote.Ref.{now}
 use borrow.Author.Needs.{needs}
 use Rattle.edit.proofs.face_corners.Statement.{statement}
 use Rattle.edit.proofs.face_corners.Tie as tie
@@ -16,8 +17,10 @@ same-length : tie.Need-same-length
 same-length c = search needs
 
 returns : tie.Need-returns
-unfolding faceCorners
-returns c = cc
+returns c = let a = c .before .before .before .before .before .before .before .before .before .args in
+    face-corners-made (a .p) (a .u .0) (a .n) (now (a .vc))
+    (c .before .before .before .before .before .before .set-corner .ensures)
+    (c .before .before .set-corner2 .ensures)
 
 pub face-corners-spec : {M : Type 1} → statement M
 face-corners-spec =

@@ -1,4 +1,5 @@
-use Rattle.edit.specs.SplitFace.{faceOpposites}
+use Rattle.edit.proofs.Writes.{face-opposites-made}
+use denote.Ref.{now}
 use borrow.Author.Needs.{needs}
 use Rattle.edit.proofs.face_opposites.Statement.{statement}
 use Rattle.edit.proofs.face_opposites.Tie as tie
@@ -40,8 +41,14 @@ same-length : tie.Need-same-length
 same-length c = search needs
 
 returns : tie.Need-returns
-unfolding faceOpposites
-returns c = cc
+returns c = let a = c .before .before .before .before .before .before .before .before .before .before .before .before .before .before .before .before .before .before .before .before .before .before .before .before .before .args in
+    face-opposites-made (a .p) (a .n) (now (a .co))
+    (c .before .before .before .before .before .before .before .before .before .before .before .before .before .before .before .before .before .before .before .before .before .before .put-six .ensures)
+    (c .before .before .before .before .before .before .before .before .before .before .before .before .before .before .before .before .before .before .set-opposite-relationship .ensures)
+    (c .before .before .before .before .before .before .before .before .before .before .before .before .before .before .set-opposite-relationship2 .ensures)
+    (c .before .before .before .before .before .before .before .before .before .before .set-opposite-relationship3 .ensures)
+    (c .before .before .before .before .before .before .make-corners-opposite .ensures)
+    (c .before .before .make-corners-opposite2 .ensures)
 
 pub face-opposites-spec : {M : Type 1} → statement M
 face-opposites-spec =

@@ -1,4 +1,4 @@
-use Rattle.edit.proofs.Made.{inner-opposites-made}
+use Rattle.edit.proofs.Writes.{inner-opposites-made}
 use denote.Ref.{now}
 use borrow.Author.Needs.{needs}
 use Rattle.edit.proofs.inner_opposites.Statement.{statement}
