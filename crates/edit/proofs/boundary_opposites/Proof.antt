@@ -10,11 +10,11 @@ put-three-requires c κs = search needs
 add-t9 : tie.Need-add-t9
 add-t9 c = search needs
 
-make-corners-opposite-requires : tie.Need-make-corners-opposite-requires
-make-corners-opposite-requires c κs = search needs
-
 add-t9-2 : tie.Need-add-t9-2
 add-t9-2 c = search needs
+
+make-corners-opposite-requires : tie.Need-make-corners-opposite-requires
+make-corners-opposite-requires c κs = search needs
 
 set-opposite-relationship-requires : tie.Need-set-opposite-relationship-requires
 set-opposite-relationship-requires c κs = search needs
@@ -35,8 +35,8 @@ boundary-opposites-spec =
     (tie.spec
     put-three-requires
     add-t9
-    make-corners-opposite-requires
     add-t9-2
+    make-corners-opposite-requires
     set-opposite-relationship-requires
     same-length
     returns)

@@ -7,8 +7,8 @@ use Rattle.edit.proofs.face_corners.Tie as tie
 set-corner-requires : tie.Need-set-corner-requires
 set-corner-requires c κs = search needs
 
-add-t10 : tie.Need-add-t10
-add-t10 c = search needs
+add-t9 : tie.Need-add-t9
+add-t9 c = search needs
 
 set-corner-requires-2 : tie.Need-set-corner-requires-2
 set-corner-requires-2 c κs = search needs
@@ -24,4 +24,4 @@ returns c = let a = c .before .before .before .before .before .before .before .b
 
 pub face-corners-spec : {M : Type 1} → statement M
 face-corners-spec =
-    tie.close (tie.spec set-corner-requires add-t10 set-corner-requires-2 same-length returns)
+    tie.close (tie.spec set-corner-requires add-t9 set-corner-requires-2 same-length returns)
