@@ -29,6 +29,19 @@ roomier c v t =
     (t .vertices)
     (t .corners)
 
+-- two faces 0 1 2 and 0 2 1 back to back: pairs 0-3, 1-5, 2-4
+abbrev pillow : Table
+pillow =
+    table
+    (0 ∷ 1 ∷ 2 ∷ 0 ∷ 2 ∷ 1 ∷ [])
+    (3 ∷ 5 ∷ 4 ∷ 0 ∷ 2 ∷ 1 ∷ [])
+    (0 ∷ 0 ∷ 0 ∷ 0 ∷ 0 ∷ 0 ∷ [])
+    (3 ∷ 5 ∷ 4 ∷ [])
+    (0 ∷ 0 ∷ 0 ∷ [])
+    (nought ∷ nought ∷ nought ∷ one ∷ nought ∷ nought ∷ two ∷ nought ∷ nought ∷ [])
+    3
+    6
+
 -- the point of an edit
 module _ (x y z : Float) where
   abbrev at : Point
@@ -89,6 +102,21 @@ module _ (x y z : Float) where
       12
   unfolding splitEdge splitInnerEdge around innerVertices innerOpposites splitCorners splitPoints ring side next previous
   b-split-edge = refl
+
+  -- "in an inner edge split where the moved vertex has only the two faces of that edge and no border, the Rust's second read must see the
+  -- first write": vertex 1 moves, and the opposite of corner 4 is 8 by then. Pairs 0-3, 1-5, 2-7, 4-9, 6-10, 8-11
+  pillow-split-edge : splitEdge (roomier 6 1 pillow) 0 at
+      ≡ table
+      (0 ∷ 1 ∷ 2 ∷ 0 ∷ 2 ∷ 1 ∷ 0 ∷ 3 ∷ 1 ∷ 3 ∷ 0 ∷ 1 ∷ [])
+      (3 ∷ 5 ∷ 7 ∷ 0 ∷ 9 ∷ 1 ∷ 10 ∷ 2 ∷ 11 ∷ 4 ∷ 6 ∷ 8 ∷ [])
+      (0 ∷ 0 ∷ 0 ∷ 0 ∷ 0 ∷ 0 ∷ 0 ∷ 0 ∷ 0 ∷ 0 ∷ 0 ∷ 0 ∷ [])
+      (3 ∷ 1 ∷ 4 ∷ 7 ∷ [])
+      (0 ∷ 0 ∷ 0 ∷ 0 ∷ [])
+      (nought ∷ nought ∷ nought ∷ x ∷ y ∷ z ∷ two ∷ nought ∷ nought ∷ one ∷ nought ∷ nought ∷ [])
+      4
+      12
+  unfolding splitEdge splitInnerEdge around innerVertices innerOpposites splitCorners splitPoints ring side next previous
+  pillow-split-edge = refl
 
   -- "T, collapse 0: faces 0 and 3 and vertex 2 deleted; deleted corners 2 and 11 hold vertex 1; live corners 3 to 8 are 0 1 3 0 3 1; pairs
   -- 3-6, 4-8, 5-7; corners of vertices 0, 1, 3 are 6, 8, 5."

@@ -1,4 +1,5 @@
 -- Laws and worked examples of the edits.
-pub mod Made
+pub mod Writes
 pub mod Without
+pub mod Made
 pub mod Examples

@@ -9,7 +9,7 @@ use lib.ListN.{set}
 use Rattle.corner.specs.Corner.{absent, next, previous, firstCorner}
 use Rattle.corner.specs.declared.Corner.{Corner}
 use Rattle.vertex.specs.declared.Point.{Point}
-use Rattle.table.specs.Slots.{vertexAt, oppositeAt, pointAt, paired, three, withPoint}
+use Rattle.table.specs.Slots.{vertexAt, oppositeAt, three, withPoint}
 use Rattle.table.specs.Table.{Table, table, opposite}
 use Rattle.edit.specs.declared.Around.{Around}
 use Rattle.edit.specs.declared.Triangle.{Triangle}
@@ -104,16 +104,3 @@ split-boundary t c at e h = rw (← e, eq-eqb _ _ h)
 pub split-inner : (t : Table) (c : ℕ) (at : Point) {o : ℕ} → o ≡ opposite t c → o ≢ absent → splitInnerEdge t c at ≡ splitEdge t c at
 unfolding splitEdge
 split-inner t c at e h = rw (← e, ne-eqb _ _ h)
-
-pub points-made : (v u : ℕ) (at : Point) (vp : List Float) {old : Point} {l1 l2 : List Float} → old ≡ pointAt vp v → l1 ≡ withPoint vp v at
-    → l2 ≡ withPoint l1 u old → l2 ≡ splitPoints v u at vp
-unfolding splitPoints
-points-made v u at vp r h1 h2 = rw (h2, h1, r)
-
--- o5 is what the first pair left at c5
-pub inner-opposites-made : (p : Around) (n : ℕ) (co : List ℕ) {l0 l1 l2 l3 l4 l5 : List ℕ} {o5 : ℕ}
-    → l0 ≡ six co n absent absent absent absent absent absent → l1 ≡ paired l0 (p .o0 .0) (n + 2) → o5 ≡ oppositeAt l1 (p .c5 .0)
-    → l2 ≡ paired l1 o5 (n + 5) → l3 ≡ paired l2 (p .c0 .0) (n + 1) → l4 ≡ paired l3 (p .c5 .0) (n + 3) → l5 ≡ paired l4 n (n + 4)
-    → l5 ≡ innerOpposites p n co
-unfolding innerOpposites
-inner-opposites-made p n co h0 h1 r h2 h3 h4 h5 = rw (h5, h4, h3, h2, r, h1, h0)

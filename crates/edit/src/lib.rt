@@ -166,7 +166,7 @@ fn collapse_marks(cm: &mut [u32], p: Around)
     table::set_mark(cm, p.c0.0, 1);
 }
 
-// No vertex keeps a corner of the deleted faces.
+// Make sure vertices are not referencing deleted corners.
 fn collapse_corners(vc: &mut [u32], p: Around)
     ensures { λ r. ⌜ now (vc .exit) ≡ collapseCorners p (now (vc .entry)) ⌝ }
 {
@@ -187,8 +187,10 @@ pub fn collapse_edge(
     at: Point,
 )
     requires { ⌜ (edge .0 < absent) × (oppositeAt (now co) (edge .0) < absent) ⌝ }
-    ensures { λ r. ⌜ table (now (cv .exit)) (now (co .exit)) (now (cm .exit)) (now (vc .exit)) (now (vm .exit)) (now (vp .exit)) (counts .vertices) (counts .corners)
-        ≡ collapseEdge (table (now (cv .entry)) (now (co .entry)) (now (cm .entry)) (now (vc .entry)) (now (vm .entry)) (now (vp .entry)) (counts .vertices) (counts .corners)) (edge .0) at ⌝ }
+    ensures { λ r. ⌜ table (now (cv .exit)) (now (co .exit)) (now (cm .exit)) (now (vc .exit)) (now (vm .exit)) (now (vp .exit))
+        (counts .vertices) (counts .corners)
+        ≡ collapseEdge (table (now (cv .entry)) (now (co .entry)) (now (cm .entry)) (now (vc .entry)) (now (vm .entry)) (now (vp .entry))
+        (counts .vertices) (counts .corners)) (edge .0) at ⌝ }
 {
     let p = read_around(cv, co, edge);
     collapse_vertices(cv, co, vc, p, counts.corners);
@@ -243,76 +245,6 @@ pub fn flip_edge(cv: &mut [u32], co: &mut [u32], vc: &mut [u32], edge: Corner)
     flip_corners(vc, p);
 }
 
-// ---- split_face
-
-fn face_vertices(cv: &mut [u32], p: Triangle, u: Vertex, n: u32)
-    requires { ⌜ n + 6 < absent ⌝ }
-    ensures { λ r. ⌜ now (cv .exit) ≡ faceVertices p (u .0) n (now (cv .entry)) ⌝ }
-{
-    put_six(cv, n, p.v1.0, p.v2.0, u.0, p.v2.0, p.v0.0, u.0);
-    table::set_vertex(cv, p.c2, u);
-}
-
-// The pairs of the three faces with each other, then with what lay beyond the old one.
-fn face_opposites(co: &mut [u32], p: Triangle, n: u32)
-    requires { ⌜ n + 6 < absent ⌝ }
-    ensures { λ r. ⌜ now (co .exit) ≡ faceOpposites p n (now (co .entry)) ⌝ }
-{
-    put_six(
-        co,
-        n,
-        4294967295,
-        4294967295,
-        4294967295,
-        4294967295,
-        4294967295,
-        4294967295,
-    );
-    table::set_opposite_relationship(co, p.c0, Corner(n + 1));
-    table::set_opposite_relationship(co, Corner(n), Corner(n + 4));
-    table::set_opposite_relationship(co, Corner(n + 3), p.c1);
-    table::make_corners_opposite(co, Corner(n + 5), p.o1);
-    table::make_corners_opposite(co, Corner(n + 2), p.o0);
-}
-
-fn face_corners(vc: &mut [u32], p: Triangle, u: Vertex, n: u32)
-    requires { ⌜ n + 6 < absent ⌝ }
-    ensures { λ r. ⌜ now (vc .exit) ≡ faceCorners p (u .0) n (now (vc .entry)) ⌝ }
-{
-    table::set_corner(vc, u, p.c2);
-    table::set_corner(vc, p.v2, Corner(n + 1));
-}
-
-pub fn split_face(
-    cv: &mut [u32],
-    co: &mut [u32],
-    cm: &mut [u32],
-    vc: &mut [u32],
-    vm: &mut [u32],
-    vp: &mut [f32],
-    counts: Counts,
-    face: Face,
-    at: Point,
-) -> Counts
-    requires { ⌜ (counts .corners + 6 < absent) × (counts .vertices + 1 < absent) × (firstCorner (face .0) < absent) ⌝ }
-    ensures { λ r. ⌜ table (now (cv .exit)) (now (co .exit)) (now (cm .exit)) (now (vc .exit)) (now (vm .exit)) (now (vp .exit)) (r .vertices) (r .corners)
-        ≡ splitFace (table (now (cv .entry)) (now (co .entry)) (now (cm .entry)) (now (vc .entry)) (now (vm .entry)) (now (vp .entry)) (counts .vertices) (counts .corners)) (face .0) at ⌝ }
-{
-    let p = read_triangle(cv, co, face.corner());
-    let u = Vertex(counts.vertices);
-    let n = counts.corners;
-    face_vertices(cv, p, u, n);
-    face_opposites(co, p, n);
-    put_six(cm, n, 0, 0, 0, 0, 0, 0);
-    face_corners(vc, p, u, n);
-    table::set_mark(vm, u.0, 0);
-    table::set_position(vp, u, at);
-    Counts {
-        vertices: u.0 + 1,
-        corners: n + 6,
-    }
-}
-
 // ---- split_edge
 
 // The old vertex moves to the new point, the new vertex takes the old place.
@@ -347,8 +279,10 @@ fn boundary_opposites(co: &mut [u32], p: Triangle, n: u32)
     ensures { λ r. ⌜ now (co .exit) ≡ boundaryOpposites p n (now (co .entry)) ⌝ }
 {
     put_three(co, n, 4294967295, 4294967295, 4294967295);
-    table::make_corners_opposite(co, p.o0, Corner(n + 2));
-    table::set_opposite_relationship(co, p.c0, Corner(n + 1));
+    let c4 = Corner(n + 1);
+    let c5 = Corner(n + 2);
+    table::make_corners_opposite(co, p.o0, c5);
+    table::set_opposite_relationship(co, p.c0, c4);
 }
 
 // Splits the border edge opposite to the corner.
@@ -364,8 +298,10 @@ fn split_boundary_edge(
     at: Point,
 ) -> Counts
     requires { ⌜ (counts .corners + 6 < absent) × (counts .vertices + 1 < absent) × (edge .0 < absent) ⌝ }
-    ensures { λ r. ⌜ table (now (cv .exit)) (now (co .exit)) (now (cm .exit)) (now (vc .exit)) (now (vm .exit)) (now (vp .exit)) (r .vertices) (r .corners)
-        ≡ splitBoundaryEdge (table (now (cv .entry)) (now (co .entry)) (now (cm .entry)) (now (vc .entry)) (now (vm .entry)) (now (vp .entry)) (counts .vertices) (counts .corners)) (edge .0) at ⌝ }
+    ensures { λ r. ⌜ table (now (cv .exit)) (now (co .exit)) (now (cm .exit)) (now (vc .exit)) (now (vm .exit)) (now (vp .exit))
+        (r .vertices) (r .corners)
+        ≡ splitBoundaryEdge (table (now (cv .entry)) (now (co .entry)) (now (cm .entry)) (now (vc .entry)) (now (vm .entry)) (now (vp .entry))
+        (counts .vertices) (counts .corners)) (edge .0) at ⌝ }
 {
     let p = read_triangle(cv, co, edge.previous());
     let u = Vertex(counts.vertices);
@@ -411,12 +347,18 @@ fn inner_opposites(co: &mut [u32], p: Around, n: u32)
         4294967295,
         4294967295,
     );
-    table::make_corners_opposite(co, p.o0, Corner(n + 2));
+    let c6 = Corner(n);
+    let c7 = Corner(n + 1);
+    let c8 = Corner(n + 2);
+    let c9 = Corner(n + 3);
+    let c10 = Corner(n + 4);
+    let c11 = Corner(n + 5);
+    table::make_corners_opposite(co, p.o0, c8);
     let o5 = table::opposite_of(co, p.c5);
-    table::make_corners_opposite(co, o5, Corner(n + 5));
-    table::set_opposite_relationship(co, p.c0, Corner(n + 1));
-    table::set_opposite_relationship(co, p.c5, Corner(n + 3));
-    table::set_opposite_relationship(co, Corner(n), Corner(n + 4));
+    table::make_corners_opposite(co, o5, c11);
+    table::set_opposite_relationship(co, p.c0, c7);
+    table::set_opposite_relationship(co, p.c5, c9);
+    table::set_opposite_relationship(co, c6, c10);
 }
 
 // Splits the inner edge opposite to the corner.
@@ -431,9 +373,12 @@ fn split_inner_edge(
     edge: Corner,
     at: Point,
 ) -> Counts
-    requires { ⌜ (counts .corners + 6 < absent) × (counts .vertices + 1 < absent) × (edge .0 < absent) × (oppositeAt (now co) (edge .0) < absent) ⌝ }
-    ensures { λ r. ⌜ table (now (cv .exit)) (now (co .exit)) (now (cm .exit)) (now (vc .exit)) (now (vm .exit)) (now (vp .exit)) (r .vertices) (r .corners)
-        ≡ splitInnerEdge (table (now (cv .entry)) (now (co .entry)) (now (cm .entry)) (now (vc .entry)) (now (vm .entry)) (now (vp .entry)) (counts .vertices) (counts .corners)) (edge .0) at ⌝ }
+    requires { ⌜ (counts .corners + 6 < absent) × (counts .vertices + 1 < absent) × (edge .0 < absent)
+        × (oppositeAt (now co) (edge .0) < absent) ⌝ }
+    ensures { λ r. ⌜ table (now (cv .exit)) (now (co .exit)) (now (cm .exit)) (now (vc .exit)) (now (vm .exit)) (now (vp .exit))
+        (r .vertices) (r .corners)
+        ≡ splitInnerEdge (table (now (cv .entry)) (now (co .entry)) (now (cm .entry)) (now (vc .entry)) (now (vm .entry)) (now (vp .entry))
+        (counts .vertices) (counts .corners)) (edge .0) at ⌝ }
 {
     let p = read_around(cv, co, edge);
     let u = Vertex(counts.vertices);
@@ -462,12 +407,93 @@ pub fn split_edge(
     at: Point,
 ) -> Counts
     requires { ⌜ (counts .corners + 6 < absent) × (counts .vertices + 1 < absent) × (edge .0 < absent) ⌝ }
-    ensures { λ r. ⌜ table (now (cv .exit)) (now (co .exit)) (now (cm .exit)) (now (vc .exit)) (now (vm .exit)) (now (vp .exit)) (r .vertices) (r .corners)
-        ≡ splitEdge (table (now (cv .entry)) (now (co .entry)) (now (cm .entry)) (now (vc .entry)) (now (vm .entry)) (now (vp .entry)) (counts .vertices) (counts .corners)) (edge .0) at ⌝ }
+    ensures { λ r. ⌜ table (now (cv .exit)) (now (co .exit)) (now (cm .exit)) (now (vc .exit)) (now (vm .exit)) (now (vp .exit))
+        (r .vertices) (r .corners)
+        ≡ splitEdge (table (now (cv .entry)) (now (co .entry)) (now (cm .entry)) (now (vc .entry)) (now (vm .entry)) (now (vp .entry))
+        (counts .vertices) (counts .corners)) (edge .0) at ⌝ }
 {
     if table::opposite_of(co, edge).0 == 4294967295 {
         split_boundary_edge(cv, co, cm, vc, vm, vp, counts, edge, at)
     } else {
         split_inner_edge(cv, co, cm, vc, vm, vp, counts, edge, at)
+    }
+}
+
+// ---- split_face
+
+fn face_vertices(cv: &mut [u32], p: Triangle, u: Vertex, n: u32)
+    requires { ⌜ n + 6 < absent ⌝ }
+    ensures { λ r. ⌜ now (cv .exit) ≡ faceVertices p (u .0) n (now (cv .entry)) ⌝ }
+{
+    put_six(cv, n, p.v1.0, p.v2.0, u.0, p.v2.0, p.v0.0, u.0);
+    table::set_vertex(cv, p.c2, u);
+}
+
+// The pairs of the three faces with each other, then with what lay beyond the old one.
+fn face_opposites(co: &mut [u32], p: Triangle, n: u32)
+    requires { ⌜ n + 6 < absent ⌝ }
+    ensures { λ r. ⌜ now (co .exit) ≡ faceOpposites p n (now (co .entry)) ⌝ }
+{
+    put_six(
+        co,
+        n,
+        4294967295,
+        4294967295,
+        4294967295,
+        4294967295,
+        4294967295,
+        4294967295,
+    );
+    let c3 = Corner(n);
+    let c4 = Corner(n + 1);
+    let c5 = Corner(n + 2);
+    let c6 = Corner(n + 3);
+    let c7 = Corner(n + 4);
+    let c8 = Corner(n + 5);
+    table::set_opposite_relationship(co, p.c0, c4);
+    table::set_opposite_relationship(co, c3, c7);
+    table::set_opposite_relationship(co, c6, p.c1);
+    table::make_corners_opposite(co, c8, p.o1);
+    table::make_corners_opposite(co, c5, p.o0);
+}
+
+fn face_corners(vc: &mut [u32], p: Triangle, u: Vertex, n: u32)
+    requires { ⌜ n + 6 < absent ⌝ }
+    ensures { λ r. ⌜ now (vc .exit) ≡ faceCorners p (u .0) n (now (vc .entry)) ⌝ }
+{
+    table::set_corner(vc, u, p.c2);
+    let c4 = Corner(n + 1);
+    table::set_corner(vc, p.v2, c4);
+}
+
+pub fn split_face(
+    cv: &mut [u32],
+    co: &mut [u32],
+    cm: &mut [u32],
+    vc: &mut [u32],
+    vm: &mut [u32],
+    vp: &mut [f32],
+    counts: Counts,
+    face: Face,
+    at: Point,
+) -> Counts
+    requires { ⌜ (counts .corners + 6 < absent) × (counts .vertices + 1 < absent) × (firstCorner (face .0) < absent) ⌝ }
+    ensures { λ r. ⌜ table (now (cv .exit)) (now (co .exit)) (now (cm .exit)) (now (vc .exit)) (now (vm .exit)) (now (vp .exit))
+        (r .vertices) (r .corners)
+        ≡ splitFace (table (now (cv .entry)) (now (co .entry)) (now (cm .entry)) (now (vc .entry)) (now (vm .entry)) (now (vp .entry))
+        (counts .vertices) (counts .corners)) (face .0) at ⌝ }
+{
+    let p = read_triangle(cv, co, face.corner());
+    let u = Vertex(counts.vertices);
+    let n = counts.corners;
+    face_vertices(cv, p, u, n);
+    face_opposites(co, p, n);
+    put_six(cm, n, 0, 0, 0, 0, 0, 0);
+    face_corners(vc, p, u, n);
+    table::set_mark(vm, u.0, 0);
+    table::set_position(vp, u, at);
+    Counts {
+        vertices: u.0 + 1,
+        corners: n + 6,
     }
 }

@@ -1,4 +1,5 @@
-use Rattle.edit.specs.SplitEdge.{boundaryOpposites}
+use Rattle.edit.proofs.Writes.{boundary-opposites-made}
+use denote.Ref.{now}
 use borrow.Author.Needs.{needs}
 use Rattle.edit.proofs.boundary_opposites.Statement.{statement}
 use Rattle.edit.proofs.boundary_opposites.Tie as tie
@@ -9,11 +10,11 @@ put-three-requires c κs = search needs
 add-t9 : tie.Need-add-t9
 add-t9 c = search needs
 
-make-corners-opposite-requires : tie.Need-make-corners-opposite-requires
-make-corners-opposite-requires c κs = search needs
-
 add-t9-2 : tie.Need-add-t9-2
 add-t9-2 c = search needs
+
+make-corners-opposite-requires : tie.Need-make-corners-opposite-requires
+make-corners-opposite-requires c κs = search needs
 
 set-opposite-relationship-requires : tie.Need-set-opposite-relationship-requires
 set-opposite-relationship-requires c κs = search needs
@@ -22,8 +23,11 @@ same-length : tie.Need-same-length
 same-length c = search needs
 
 returns : tie.Need-returns
-unfolding boundaryOpposites
-returns c = cc
+returns c = let a = c .before .before .before .before .before .before .before .before .before .before .before .before .before .args in
+    boundary-opposites-made (a .p) (a .n) (now (a .co))
+    (c .before .before .before .before .before .before .before .before .before .before .put-three .ensures)
+    (c .before .before .before .before .before .before .make-corners-opposite .ensures)
+    (c .before .before .set-opposite-relationship .ensures)
 
 pub boundary-opposites-spec : {M : Type 1} → statement M
 boundary-opposites-spec =
@@ -31,8 +35,8 @@ boundary-opposites-spec =
     (tie.spec
     put-three-requires
     add-t9
-    make-corners-opposite-requires
     add-t9-2
+    make-corners-opposite-requires
     set-opposite-relationship-requires
     same-length
     returns)

@@ -1,4 +1,5 @@
-use Rattle.edit.specs.Collapse.{collapseCorners}
+use Rattle.edit.proofs.Writes.{collapse-corners-made}
+use denote.Ref.{now}
 use borrow.Author.Needs.{needs}
 use Rattle.edit.proofs.collapse_corners.Statement.{statement}
 use Rattle.edit.proofs.collapse_corners.Tie as tie
@@ -22,8 +23,13 @@ same-length : tie.Need-same-length
 same-length c = search needs
 
 returns : tie.Need-returns
-unfolding collapseCorners
-returns c = cc
+returns c = let a = c .before .before .before .before .before .before .before .before .before .before .before .before .before .before .before .args in
+    collapse-corners-made (a .p) (now (a .vc))
+    (c .before .before .before .before .before .before .before .before .before .before .before .before .set-corner-for-wing-vertex .ensures)
+    (c .before .before .before .before .before .before .before .before .set-corner-for-wing-vertex2 .ensures)
+    (c .before .before .before .before .either .ensures)
+    (c .before .before .before .either2 .ensures)
+    (c .before .before .set-corner-for-wing-vertex3 .ensures)
 
 pub collapse-corners-spec : {M : Type 1} → statement M
 collapse-corners-spec =

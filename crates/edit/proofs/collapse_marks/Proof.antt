@@ -1,4 +1,5 @@
-use Rattle.edit.specs.Collapse.{collapseMarks}
+use Rattle.edit.proofs.Writes.{collapse-marks-made}
+use denote.Ref.{now}
 use borrow.Author.Needs.{needs}
 use Rattle.edit.proofs.collapse_marks.Statement.{statement}
 use Rattle.edit.proofs.collapse_marks.Tie as tie
@@ -25,8 +26,14 @@ same-length : tie.Need-same-length
 same-length c = search needs
 
 returns : tie.Need-returns
-unfolding collapseMarks
-returns c = cc
+returns c = let a = c .before .before .before .before .before .before .before .before .before .before .before .before .before .before .before .before .before .before .before .before .before .before .before .before .before .args in
+    collapse-marks-made (a .p) (now (a .cm))
+    (c .before .before .before .before .before .before .before .before .before .before .before .before .before .before .before .before .before .before .before .before .before .before .set-mark .ensures)
+    (c .before .before .before .before .before .before .before .before .before .before .before .before .before .before .before .before .before .before .set-mark2 .ensures)
+    (c .before .before .before .before .before .before .before .before .before .before .before .before .before .before .set-mark3 .ensures)
+    (c .before .before .before .before .before .before .before .before .before .before .set-mark4 .ensures)
+    (c .before .before .before .before .before .before .set-mark5 .ensures)
+    (c .before .before .set-mark6 .ensures)
 
 pub collapse-marks-spec : {M : Type 1} → statement M
 collapse-marks-spec =

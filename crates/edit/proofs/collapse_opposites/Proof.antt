@@ -1,4 +1,5 @@
-use Rattle.edit.specs.Collapse.{collapseOpposites}
+use Rattle.edit.proofs.Writes.{collapse-opposites-made}
+use denote.Ref.{now}
 use borrow.Author.Needs.{needs}
 use Rattle.edit.proofs.collapse_opposites.Statement.{statement}
 use Rattle.edit.proofs.collapse_opposites.Tie as tie
@@ -13,8 +14,10 @@ same-length : tie.Need-same-length
 same-length c = search needs
 
 returns : tie.Need-returns
-unfolding collapseOpposites
-returns c = cc
+returns c = let a = c .before .before .before .before .before .before .before .before .before .args in
+    collapse-opposites-made (a .p) (now (a .co))
+    (c .before .before .before .before .before .before .make-corners-opposite .ensures)
+    (c .before .before .make-corners-opposite2 .ensures)
 
 pub collapse-opposites-spec : {M : Type 1} → statement M
 collapse-opposites-spec =

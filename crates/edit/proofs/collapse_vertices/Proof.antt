@@ -1,4 +1,5 @@
-use Rattle.edit.specs.Collapse.{collapseVertices}
+use Rattle.edit.proofs.Writes.{collapse-vertices-made}
+use denote.Ref.{now}
 use borrow.Author.Needs.{needs}
 use Rattle.edit.proofs.collapse_vertices.Statement.{statement}
 use Rattle.edit.proofs.collapse_vertices.Tie as tie
@@ -13,8 +14,10 @@ same-length : tie.Need-same-length
 same-length c = search needs
 
 returns : tie.Need-returns
-unfolding collapseVertices
-returns c = cc
+returns c = let a = c .before .before .before .before .before .before .before .before .args in
+    collapse-vertices-made (a .p) (a .n) (now (a .co)) (now (a .vc)) (now (a .cv))
+    (c .before .before .before .before .corner-of .ensures)
+    (c .before .before .label .ensures)
 
 pub collapse-vertices-spec : {M : Type 1} → statement M
 collapse-vertices-spec = tie.close (tie.spec corner-of-requires label-requires same-length returns)

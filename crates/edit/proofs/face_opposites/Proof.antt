@@ -1,4 +1,5 @@
-use Rattle.edit.specs.SplitFace.{faceOpposites}
+use Rattle.edit.proofs.Writes.{face-opposites-made}
+use denote.Ref.{now}
 use borrow.Author.Needs.{needs}
 use Rattle.edit.proofs.face_opposites.Statement.{statement}
 use Rattle.edit.proofs.face_opposites.Tie as tie
@@ -6,32 +7,32 @@ use Rattle.edit.proofs.face_opposites.Tie as tie
 put-six-requires : tie.Need-put-six-requires
 put-six-requires c κs = search needs
 
-add-t9 : tie.Need-add-t9
-add-t9 c = search needs
+add-t13 : tie.Need-add-t13
+add-t13 c = search needs
+
+add-t13-2 : tie.Need-add-t13-2
+add-t13-2 c = search needs
+
+add-t13-3 : tie.Need-add-t13-3
+add-t13-3 c = search needs
+
+add-t13-4 : tie.Need-add-t13-4
+add-t13-4 c = search needs
+
+add-t13-5 : tie.Need-add-t13-5
+add-t13-5 c = search needs
 
 set-opposite-relationship-requires : tie.Need-set-opposite-relationship-requires
 set-opposite-relationship-requires c κs = search needs
 
-add-t9-2 : tie.Need-add-t9-2
-add-t9-2 c = search needs
-
 set-opposite-relationship-requires-2 : tie.Need-set-opposite-relationship-requires-2
 set-opposite-relationship-requires-2 c κs = search needs
-
-add-t9-3 : tie.Need-add-t9-3
-add-t9-3 c = search needs
 
 set-opposite-relationship-requires-3 : tie.Need-set-opposite-relationship-requires-3
 set-opposite-relationship-requires-3 c κs = search needs
 
-add-t9-4 : tie.Need-add-t9-4
-add-t9-4 c = search needs
-
 make-corners-opposite-requires : tie.Need-make-corners-opposite-requires
 make-corners-opposite-requires c κs = search needs
-
-add-t9-5 : tie.Need-add-t9-5
-add-t9-5 c = search needs
 
 make-corners-opposite-requires-2 : tie.Need-make-corners-opposite-requires-2
 make-corners-opposite-requires-2 c κs = search needs
@@ -40,23 +41,29 @@ same-length : tie.Need-same-length
 same-length c = search needs
 
 returns : tie.Need-returns
-unfolding faceOpposites
-returns c = cc
+returns c = let a = c .before .before .before .before .before .before .before .before .before .before .before .before .before .before .before .before .before .before .before .before .before .before .before .before .before .args in
+    face-opposites-made (a .p) (a .n) (now (a .co))
+    (c .before .before .before .before .before .before .before .before .before .before .before .before .before .before .before .before .before .before .before .before .before .before .put-six .ensures)
+    (c .before .before .before .before .before .before .before .before .before .before .before .before .before .before .before .before .before .before .set-opposite-relationship .ensures)
+    (c .before .before .before .before .before .before .before .before .before .before .before .before .before .before .set-opposite-relationship2 .ensures)
+    (c .before .before .before .before .before .before .before .before .before .before .set-opposite-relationship3 .ensures)
+    (c .before .before .before .before .before .before .make-corners-opposite .ensures)
+    (c .before .before .make-corners-opposite2 .ensures)
 
 pub face-opposites-spec : {M : Type 1} → statement M
 face-opposites-spec =
     tie.close
     (tie.spec
     put-six-requires
-    add-t9
+    add-t13
+    add-t13-2
+    add-t13-3
+    add-t13-4
+    add-t13-5
     set-opposite-relationship-requires
-    add-t9-2
     set-opposite-relationship-requires-2
-    add-t9-3
     set-opposite-relationship-requires-3
-    add-t9-4
     make-corners-opposite-requires
-    add-t9-5
     make-corners-opposite-requires-2
     same-length
     returns)

@@ -1,4 +1,5 @@
-use Rattle.edit.specs.SplitFace.{faceVertices}
+use Rattle.edit.proofs.Writes.{face-vertices-made}
+use denote.Ref.{now}
 use borrow.Author.Needs.{needs}
 use Rattle.edit.proofs.face_vertices.Statement.{statement}
 use Rattle.edit.proofs.face_vertices.Tie as tie
@@ -13,8 +14,10 @@ same-length : tie.Need-same-length
 same-length c = search needs
 
 returns : tie.Need-returns
-unfolding faceVertices
-returns c = cc
+returns c = let a = c .before .before .before .before .before .before .before .before .before .args in
+    face-vertices-made (a .p) (a .u .0) (a .n) (now (a .cv))
+    (c .before .before .before .before .before .before .put-six .ensures)
+    (c .before .before .set-vertex .ensures)
 
 pub face-vertices-spec : {M : Type 1} → statement M
 face-vertices-spec = tie.close (tie.spec put-six-requires set-vertex-requires same-length returns)

@@ -1,4 +1,5 @@
-use Rattle.edit.specs.Flip.{flipCorners}
+use Rattle.edit.proofs.Writes.{flip-corners-made}
+use denote.Ref.{now}
 use borrow.Author.Needs.{needs}
 use Rattle.edit.proofs.flip_corners.Statement.{statement}
 use Rattle.edit.proofs.flip_corners.Tie as tie
@@ -19,8 +20,12 @@ same-length : tie.Need-same-length
 same-length c = search needs
 
 returns : tie.Need-returns
-unfolding flipCorners
-returns c = cc
+returns c = let a = c .before .before .before .before .before .before .before .before .before .before .before .before .before .before .before .before .before .args in
+    flip-corners-made (a .p) (now (a .vc))
+    (c .before .before .before .before .before .before .before .before .before .before .before .before .before .before .set-corner .ensures)
+    (c .before .before .before .before .before .before .before .before .before .before .set-corner2 .ensures)
+    (c .before .before .before .before .before .before .set-corner3 .ensures)
+    (c .before .before .set-corner4 .ensures)
 
 pub flip-corners-spec : {M : Type 1} → statement M
 flip-corners-spec =

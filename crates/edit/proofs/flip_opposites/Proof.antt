@@ -1,4 +1,5 @@
-use Rattle.edit.specs.Flip.{flipOpposites}
+use Rattle.edit.proofs.Writes.{flip-opposites-made}
+use denote.Ref.{now}
 use borrow.Author.Needs.{needs}
 use Rattle.edit.proofs.flip_opposites.Statement.{statement}
 use Rattle.edit.proofs.flip_opposites.Tie as tie
@@ -22,8 +23,13 @@ same-length : tie.Need-same-length
 same-length c = search needs
 
 returns : tie.Need-returns
-unfolding flipOpposites
-returns c = cc
+returns c = let a = c .before .before .before .before .before .before .before .before .before .before .before .before .before .before .before .before .before .before .before .before .before .args in
+    flip-opposites-made (a .p) (now (a .co))
+    (c .before .before .before .before .before .before .before .before .before .before .before .before .before .before .before .before .before .before .make-corners-opposite .ensures)
+    (c .before .before .before .before .before .before .before .before .before .before .before .before .before .before .make-corners-opposite2 .ensures)
+    (c .before .before .before .before .before .before .before .before .before .before .make-corners-opposite3 .ensures)
+    (c .before .before .before .before .before .before .make-corners-opposite4 .ensures)
+    (c .before .before .make-corners-opposite5 .ensures)
 
 pub flip-opposites-spec : {M : Type 1} → statement M
 flip-opposites-spec =

@@ -1,4 +1,5 @@
-use Rattle.edit.specs.Flip.{flipVertices}
+use Rattle.edit.proofs.Writes.{flip-vertices-made}
+use denote.Ref.{now}
 use borrow.Author.Needs.{needs}
 use Rattle.edit.proofs.flip_vertices.Statement.{statement}
 use Rattle.edit.proofs.flip_vertices.Tie as tie
@@ -25,8 +26,14 @@ same-length : tie.Need-same-length
 same-length c = search needs
 
 returns : tie.Need-returns
-unfolding flipVertices
-returns c = cc
+returns c = let a = c .before .before .before .before .before .before .before .before .before .before .before .before .before .before .before .before .before .before .before .before .before .before .before .before .before .args in
+    flip-vertices-made (a .p) (now (a .cv))
+    (c .before .before .before .before .before .before .before .before .before .before .before .before .before .before .before .before .before .before .before .before .before .before .set-vertex .ensures)
+    (c .before .before .before .before .before .before .before .before .before .before .before .before .before .before .before .before .before .before .set-vertex2 .ensures)
+    (c .before .before .before .before .before .before .before .before .before .before .before .before .before .before .set-vertex3 .ensures)
+    (c .before .before .before .before .before .before .before .before .before .before .set-vertex4 .ensures)
+    (c .before .before .before .before .before .before .set-vertex5 .ensures)
+    (c .before .before .set-vertex6 .ensures)
 
 pub flip-vertices-spec : {M : Type 1} → statement M
 flip-vertices-spec =

@@ -1,4 +1,4 @@
-use Rattle.edit.proofs.Made.{inner-opposites-made}
+use Rattle.edit.proofs.Writes.{inner-opposites-made}
 use denote.Ref.{now}
 use borrow.Author.Needs.{needs}
 use Rattle.edit.proofs.inner_opposites.Statement.{statement}
@@ -7,8 +7,20 @@ use Rattle.edit.proofs.inner_opposites.Tie as tie
 put-six-requires : tie.Need-put-six-requires
 put-six-requires c κs = search needs
 
-add-t10 : tie.Need-add-t10
-add-t10 c = search needs
+add-t14 : tie.Need-add-t14
+add-t14 c = search needs
+
+add-t14-2 : tie.Need-add-t14-2
+add-t14-2 c = search needs
+
+add-t14-3 : tie.Need-add-t14-3
+add-t14-3 c = search needs
+
+add-t14-4 : tie.Need-add-t14-4
+add-t14-4 c = search needs
+
+add-t14-5 : tie.Need-add-t14-5
+add-t14-5 c = search needs
 
 make-corners-opposite-requires : tie.Need-make-corners-opposite-requires
 make-corners-opposite-requires c κs = search needs
@@ -16,26 +28,14 @@ make-corners-opposite-requires c κs = search needs
 opposite-of-requires : tie.Need-opposite-of-requires
 opposite-of-requires c κs = search needs
 
-add-t10-2 : tie.Need-add-t10-2
-add-t10-2 c = search needs
-
 make-corners-opposite-requires-2 : tie.Need-make-corners-opposite-requires-2
 make-corners-opposite-requires-2 c κs = search needs
-
-add-t10-3 : tie.Need-add-t10-3
-add-t10-3 c = search needs
 
 set-opposite-relationship-requires : tie.Need-set-opposite-relationship-requires
 set-opposite-relationship-requires c κs = search needs
 
-add-t10-4 : tie.Need-add-t10-4
-add-t10-4 c = search needs
-
 set-opposite-relationship-requires-2 : tie.Need-set-opposite-relationship-requires-2
 set-opposite-relationship-requires-2 c κs = search needs
-
-add-t10-5 : tie.Need-add-t10-5
-add-t10-5 c = search needs
 
 set-opposite-relationship-requires-3 : tie.Need-set-opposite-relationship-requires-3
 set-opposite-relationship-requires-3 c κs = search needs
@@ -59,16 +59,16 @@ inner-opposites-spec =
     tie.close
     (tie.spec
     put-six-requires
-    add-t10
+    add-t14
+    add-t14-2
+    add-t14-3
+    add-t14-4
+    add-t14-5
     make-corners-opposite-requires
     opposite-of-requires
-    add-t10-2
     make-corners-opposite-requires-2
-    add-t10-3
     set-opposite-relationship-requires
-    add-t10-4
     set-opposite-relationship-requires-2
-    add-t10-5
     set-opposite-relationship-requires-3
     same-length
     returns)

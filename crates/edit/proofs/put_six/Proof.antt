@@ -1,3 +1,5 @@
+use Rattle.edit.proofs.Writes.{six-made}
+use denote.Ref.{now}
 use borrow.Author.Needs.{needs}
 use Rattle.edit.proofs.put_six.Statement.{statement}
 use Rattle.edit.proofs.put_six.Tie as tie
@@ -15,7 +17,10 @@ same-length : tie.Need-same-length
 same-length c = search needs
 
 returns : tie.Need-returns
-returns c = cc
+returns c = let a = c .before .before .before .before .before .before .before .before .before .args in
+    six-made (now (a .l)) (a .n) (a .a) (a .b) (a .c) (a .d) (a .e) (a .f)
+    (c .before .before .before .before .before .before .put-three .ensures)
+    (c .before .before .put-three2 .ensures)
 
 pub put-six-spec : {M : Type 1} → statement M
 put-six-spec =

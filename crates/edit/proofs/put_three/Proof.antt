@@ -1,3 +1,5 @@
+use Rattle.edit.proofs.Writes.{three-made}
+use denote.Ref.{now}
 use borrow.Author.Needs.{needs}
 use Rattle.edit.proofs.put_three.Statement.{statement}
 use Rattle.edit.proofs.put_three.Tie as tie
@@ -21,7 +23,11 @@ same-length : tie.Need-same-length
 same-length c = search needs
 
 returns : tie.Need-returns
-returns c = cc
+returns c = let a = c .before .before .before .before .before .before .before .before .before .before .before .before .before .args in
+    three-made (now (a .l)) (a .n) (a .a) (a .b) (a .c)
+    (c .before .before .before .before .before .before .before .before .before .before .put .ensures)
+    (c .before .before .before .before .before .before .put2 .ensures)
+    (c .before .before .put3 .ensures)
 
 pub put-three-spec : {M : Type 1} → statement M
 put-three-spec =

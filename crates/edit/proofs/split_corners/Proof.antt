@@ -1,4 +1,5 @@
-use Rattle.edit.specs.SplitEdge.{splitCorners}
+use Rattle.edit.proofs.Writes.{split-corners-made}
+use denote.Ref.{now}
 use borrow.Author.Needs.{needs}
 use Rattle.edit.proofs.split_corners.Statement.{statement}
 use Rattle.edit.proofs.split_corners.Tie as tie
@@ -13,8 +14,10 @@ same-length : tie.Need-same-length
 same-length c = search needs
 
 returns : tie.Need-returns
-unfolding splitCorners
-returns c = cc
+returns c = let a = c .before .before .before .before .before .before .before .before .before .args in
+    split-corners-made (a .v .0) (a .u .0) (a .c .0) (a .d .0) (now (a .vc))
+    (c .before .before .before .before .before .before .set-corner .ensures)
+    (c .before .before .set-corner2 .ensures)
 
 pub split-corners-spec : {M : Type 1} → statement M
 split-corners-spec =

@@ -1,4 +1,4 @@
-use Rattle.edit.proofs.Made.{points-made}
+use Rattle.edit.proofs.Writes.{split-points-made}
 use denote.Ref.{now}
 use borrow.Author.Needs.{needs}
 use Rattle.edit.proofs.split_points.Statement.{statement}
@@ -18,7 +18,7 @@ same-length c = search needs
 
 returns : tie.Need-returns
 returns c = let a = c .before .before .before .before .before .before .before .before .before .before .before .args in
-    points-made (a .v .0) (a .u .0) (a .at) (now (a .vp))
+    split-points-made (a .v .0) (a .u .0) (a .at) (now (a .vp))
     (c .before .before .before .before .before .before .before .before .position .ensures)
     (c .before .before .before .before .before .before .set-position .ensures)
     (c .before .before .set-position2 .ensures)
