@@ -2,3 +2,5 @@
 pub mod Steps
 pub mod Loops
 pub mod Answers
+pub mod Sound
+pub mod Meshes
