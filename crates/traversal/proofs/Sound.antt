@@ -141,8 +141,8 @@ module _ (co cm : List ℕ) (n : ℕ) {vtx : ℕ → ℕ} (L : Linked (Lives cm 
       go : Stop (stuckL opp) (swingL opp) c (it (swingL opp) c (lefts .last)) → Healthy
       go (closes t u) =
           let l = left-side AtStart
-              (λ room. stops-start co cm n true c (it (swingL opp) c (lefts .last)) room t
-                  (lands-left _ (lefts .lives (lefts .last) (omega arith)) t) refl u) in
+          (λ room. stops-start co cm n true c (it (swingL opp) c (lefts .last)) room t
+          (lands-left _ (lefts .lives (lefts .last) (omega arith)) t) refl u) in
           ring t u (rw (face-of c h, l))
       go (border s) =
           let l = left-side AtBorder (λ room. stops-border co cm n true c (it (swingL opp) c (lefts .last)) room s) in

@@ -214,7 +214,8 @@ fn write_side(
     first: usize,
 )
     requires { ⌜ first ≤ absent ⌝ }
-    ensures { λ r. ⌜ now (list .exit) ≡ sets (now (list .entry)) first (map (entryOf kind (now (cv .entry)) left) (side left (now (co .entry)) (now (cm .entry)) used (start .0) room (start .0) .visits)) ⌝ }
+    ensures { λ r. ⌜ now (list .exit) ≡ sets (now (list .entry)) first
+        (map (entryOf kind (now (cv .entry)) left) (side left (now (co .entry)) (now (cm .entry)) used (start .0) room (start .0) .visits)) ⌝ }
 {
     let mut c = start;
     let mut rest = room;
@@ -259,7 +260,9 @@ fn write_part(
     first: usize,
 )
     requires { ⌜ (start .0 < absent) × (first < absent) ⌝ }
-    ensures { λ r. ⌜ now (list .exit) ≡ sets (now (list .entry)) first (map (entryOf kind (now (cv .entry)) left) (cond whole (start .0 ∷ side left (now (co .entry)) (now (cm .entry)) used (start .0) room (start .0) .visits) (side left (now (co .entry)) (now (cm .entry)) used (start .0) room (start .0) .visits))) ⌝ }
+    ensures { λ r. ⌜ now (list .exit) ≡ sets (now (list .entry)) first (map (entryOf kind (now (cv .entry)) left)
+        (cond whole (start .0 ∷ side left (now (co .entry)) (now (cm .entry)) used (start .0) room (start .0) .visits)
+        (side left (now (co .entry)) (now (cm .entry)) used (start .0) room (start .0) .visits))) ⌝ }
 {
     if whole {
         put(list, first, entry(kind, cv, left, start));
@@ -294,7 +297,8 @@ fn write_closed(
 ) -> Ring
     requires { ⌜ used < absent ⌝ }
     requires { ⌜ Closed l ≡ counted (walk (now co) (now cm) used (start .0)) ⌝ }
-    ensures { λ r. ⌜ outcome r (now (list .exit)) ≡ walked kind (now (cv .entry)) (walk (now (co .entry)) (now (cm .entry)) used (start .0)) (now (list .entry)) ⌝ }
+    ensures { λ r. ⌜ outcome r (now (list .exit))
+        ≡ walked kind (now (cv .entry)) (walk (now (co .entry)) (now (cm .entry)) used (start .0)) (now (list .entry)) ⌝ }
 {
     let n = l + 1;
     if list.len() < n as usize {
@@ -329,10 +333,11 @@ fn write_open(
 ) -> Ring
     requires { ⌜ used < absent ⌝ }
     requires { ⌜ Open l r ≡ counted (walk (now co) (now cm) used (start .0)) ⌝ }
-    ensures { λ r. ⌜ outcome r (now (list .exit)) ≡ walked kind (now (cv .entry)) (walk (now (co .entry)) (now (cm .entry)) used (start .0)) (now (list .entry)) ⌝ }
+    ensures { λ r. ⌜ outcome r (now (list .exit))
+        ≡ walked kind (now (cv .entry)) (walk (now (co .entry)) (now (cm .entry)) used (start .0)) (now (list .entry)) ⌝ }
 {
-    let n = l + 1 + r;
-    let m = n + extra(kind);
+    let seen = l + 1 + r;
+    let m = seen + extra(kind);
     if list.len() < m as usize {
         return refused(16);
     }
@@ -354,7 +359,7 @@ fn write_open(
     );
     Ring {
         answer: 0,
-        visited: n,
+        visited: seen,
         written: m,
     }
 }
@@ -370,7 +375,8 @@ fn ring_from(
     list: &mut [u32],
 ) -> Ring
     requires { ⌜ used < absent ⌝ }
-    ensures { λ r. ⌜ outcome r (now (list .exit)) ≡ walked kind (now (cv .entry)) (walk (now (co .entry)) (now (cm .entry)) used (start .0)) (now (list .entry)) ⌝ }
+    ensures { λ r. ⌜ outcome r (now (list .exit))
+        ≡ walked kind (now (cv .entry)) (walk (now (co .entry)) (now (cm .entry)) used (start .0)) (now (list .entry)) ⌝ }
 {
     let w = count_walk(co, cm, used, start);
     match w {
@@ -403,7 +409,9 @@ fn ring_list(
     vertex: Vertex,
     list: &mut [u32],
 ) -> Ring
-    ensures { λ r. ⌜ outcome r (now (list .exit)) ≡ ringOf kind (vertex .0) (table (now (cv .entry)) (now (co .entry)) (now (cm .entry)) (now (vc .entry)) (now (vm .entry)) (now (vp .entry)) (counts .vertices) (counts .corners)) (now (list .entry)) ⌝ }
+    ensures { λ r. ⌜ outcome r (now (list .exit)) ≡ ringOf kind (vertex .0)
+        (table (now (cv .entry)) (now (co .entry)) (now (cm .entry)) (now (vc .entry)) (now (vm .entry)) (now (vp .entry))
+        (counts .vertices) (counts .corners)) (now (list .entry)) ⌝ }
 {
     if is_shaped(cv.len(), co.len(), cm.len(), vc.len(), vm.len(), vp.len()) {
         let used = used_slots(counts.corners, cm.len());
@@ -435,7 +443,9 @@ pub fn ring_corners(
     vertex: Vertex,
     list: &mut [u32],
 ) -> Ring
-    ensures { λ r. ⌜ outcome r (now (list .exit)) ≡ ringOf Corners (vertex .0) (table (now (cv .entry)) (now (co .entry)) (now (cm .entry)) (now (vc .entry)) (now (vm .entry)) (now (vp .entry)) (counts .vertices) (counts .corners)) (now (list .entry)) ⌝ }
+    ensures { λ r. ⌜ outcome r (now (list .exit)) ≡ ringOf Corners (vertex .0)
+        (table (now (cv .entry)) (now (co .entry)) (now (cm .entry)) (now (vc .entry)) (now (vm .entry)) (now (vp .entry))
+        (counts .vertices) (counts .corners)) (now (list .entry)) ⌝ }
 {
     ring_list(Kind::Corners, cv, co, cm, vc, vm, vp, counts, vertex, list)
 }
@@ -452,7 +462,9 @@ pub fn ring_vertices(
     vertex: Vertex,
     list: &mut [u32],
 ) -> Ring
-    ensures { λ r. ⌜ outcome r (now (list .exit)) ≡ ringOf Vertices (vertex .0) (table (now (cv .entry)) (now (co .entry)) (now (cm .entry)) (now (vc .entry)) (now (vm .entry)) (now (vp .entry)) (counts .vertices) (counts .corners)) (now (list .entry)) ⌝ }
+    ensures { λ r. ⌜ outcome r (now (list .exit)) ≡ ringOf Vertices (vertex .0)
+        (table (now (cv .entry)) (now (co .entry)) (now (cm .entry)) (now (vc .entry)) (now (vm .entry)) (now (vp .entry))
+        (counts .vertices) (counts .corners)) (now (list .entry)) ⌝ }
 {
     ring_list(Kind::Vertices, cv, co, cm, vc, vm, vp, counts, vertex, list)
 }
@@ -469,7 +481,9 @@ pub fn ring_faces(
     vertex: Vertex,
     list: &mut [u32],
 ) -> Ring
-    ensures { λ r. ⌜ outcome r (now (list .exit)) ≡ ringOf Faces (vertex .0) (table (now (cv .entry)) (now (co .entry)) (now (cm .entry)) (now (vc .entry)) (now (vm .entry)) (now (vp .entry)) (counts .vertices) (counts .corners)) (now (list .entry)) ⌝ }
+    ensures { λ r. ⌜ outcome r (now (list .exit)) ≡ ringOf Faces (vertex .0)
+        (table (now (cv .entry)) (now (co .entry)) (now (cm .entry)) (now (vc .entry)) (now (vm .entry)) (now (vp .entry))
+        (counts .vertices) (counts .corners)) (now (list .entry)) ⌝ }
 {
     ring_list(Kind::Faces, cv, co, cm, vc, vm, vp, counts, vertex, list)
 }
@@ -486,7 +500,9 @@ pub fn ring_edges(
     vertex: Vertex,
     list: &mut [u32],
 ) -> Ring
-    ensures { λ r. ⌜ outcome r (now (list .exit)) ≡ ringOf Edges (vertex .0) (table (now (cv .entry)) (now (co .entry)) (now (cm .entry)) (now (vc .entry)) (now (vm .entry)) (now (vp .entry)) (counts .vertices) (counts .corners)) (now (list .entry)) ⌝ }
+    ensures { λ r. ⌜ outcome r (now (list .exit)) ≡ ringOf Edges (vertex .0)
+        (table (now (cv .entry)) (now (co .entry)) (now (cm .entry)) (now (vc .entry)) (now (vm .entry)) (now (vp .entry))
+        (counts .vertices) (counts .corners)) (now (list .entry)) ⌝ }
 {
     ring_list(Kind::Edges, cv, co, cm, vc, vm, vp, counts, vertex, list)
 }
@@ -503,7 +519,9 @@ pub fn ring_bounding_edges(
     vertex: Vertex,
     list: &mut [u32],
 ) -> Ring
-    ensures { λ r. ⌜ outcome r (now (list .exit)) ≡ ringOf BoundingEdges (vertex .0) (table (now (cv .entry)) (now (co .entry)) (now (cm .entry)) (now (vc .entry)) (now (vm .entry)) (now (vp .entry)) (counts .vertices) (counts .corners)) (now (list .entry)) ⌝ }
+    ensures { λ r. ⌜ outcome r (now (list .exit)) ≡ ringOf BoundingEdges (vertex .0)
+        (table (now (cv .entry)) (now (co .entry)) (now (cm .entry)) (now (vc .entry)) (now (vm .entry)) (now (vp .entry))
+        (counts .vertices) (counts .corners)) (now (list .entry)) ⌝ }
 {
     ring_list(
         Kind::BoundingEdges,

@@ -7,11 +7,11 @@ use borrow.Author.Needs.{needs}
 use Rattle.traversal.proofs.write_open.Statement.{statement}
 use Rattle.traversal.proofs.write_open.Tie as tie
 
-add-n : tie.Need-add-n
-add-n c = omega (arith, was-open _ _ _ _ _ _ (c .before .before .before .before .pre .1) .bound)
+add-seen : tie.Need-add-seen
+add-seen c = omega (arith, was-open _ _ _ _ _ _ (c .before .before .before .before .pre .1) .bound)
 
-add-n-2 : tie.Need-add-n-2
-add-n-2 c = omega (arith, was-open _ _ _ _ _ _ (c .before .before .before .before .pre .1) .bound)
+add-seen-2 : tie.Need-add-seen-2
+add-seen-2 c = omega (arith, was-open _ _ _ _ _ _ (c .before .before .before .before .pre .1) .bound)
 
 extra-requires : tie.Need-extra-requires
 extra-requires c κs = search needs
@@ -62,8 +62,8 @@ pub write-open-spec : {M : Type 1} → statement M
 write-open-spec =
     tie.close
     (tie.spec
-    add-n
-    add-n-2
+    add-seen
+    add-seen-2
     extra-requires
     add-m
     cast-if1
