@@ -1,0 +1,2 @@
+-- The moves of a walker.
+pub mod Walker
