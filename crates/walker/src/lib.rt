@@ -10,6 +10,11 @@ use table::at;
 use table::is_live;
 use table::is_shaped;
 
+// A walker: one corner number.
+pub struct Walker {
+    pub corner: Corner,
+}
+
 // The answer, and whether the walker moved: not after a refusal, nor where an absent opposite made it stay.
 pub struct Step {
     pub answer: u32,
@@ -231,4 +236,111 @@ pub fn swing_right_from<'a>(
         return swing_to(false, co, cm, corners, corner);
     }
     stay(a, corner)
+}
+
+// ---- the walker, moved in place
+
+pub fn move_to_next<'s, 'a>(
+    walker: &'s mut Walker,
+    cv: &'a [u32],
+    co: &'a [u32],
+    cm: &'a [u32],
+    vc: &'a [u32],
+    vm: &'a [u32],
+    vp: &'a [f32],
+    vertices: u32,
+    corners: u32,
+) -> Step
+    ensures { λ r. ⌜ (r ≡ toNext (table (now (cv .entry)) (now (co .entry)) (now (cm .entry)) (now (vc .entry)) (now (vm .entry))
+        (now (vp .entry)) vertices corners) (now (walker .entry) .corner .0) .step)
+        × (now (walker .exit) .corner ≡ toNext (table (now (cv .entry)) (now (co .entry)) (now (cm .entry)) (now (vc .entry)) (now (vm .entry))
+        (now (vp .entry)) vertices corners) (now (walker .entry) .corner .0) .corner) ⌝ }
+{
+    let m = next_from(walker.corner, cv, co, cm, vc, vm, vp, vertices, corners);
+    walker.corner = m.corner;
+    m.step
+}
+
+pub fn move_to_previous<'s, 'a>(
+    walker: &'s mut Walker,
+    cv: &'a [u32],
+    co: &'a [u32],
+    cm: &'a [u32],
+    vc: &'a [u32],
+    vm: &'a [u32],
+    vp: &'a [f32],
+    vertices: u32,
+    corners: u32,
+) -> Step
+    ensures { λ r. ⌜ (r ≡ toPrevious (table (now (cv .entry)) (now (co .entry)) (now (cm .entry)) (now (vc .entry)) (now (vm .entry))
+        (now (vp .entry)) vertices corners) (now (walker .entry) .corner .0) .step)
+        × (now (walker .exit) .corner ≡ toPrevious (table (now (cv .entry)) (now (co .entry)) (now (cm .entry)) (now (vc .entry)) (now (vm .entry))
+        (now (vp .entry)) vertices corners) (now (walker .entry) .corner .0) .corner) ⌝ }
+{
+    let m = previous_from(walker.corner, cv, co, cm, vc, vm, vp, vertices, corners);
+    walker.corner = m.corner;
+    m.step
+}
+
+pub fn move_to_opposite<'s, 'a>(
+    walker: &'s mut Walker,
+    cv: &'a [u32],
+    co: &'a [u32],
+    cm: &'a [u32],
+    vc: &'a [u32],
+    vm: &'a [u32],
+    vp: &'a [f32],
+    vertices: u32,
+    corners: u32,
+) -> Step
+    ensures { λ r. ⌜ (r ≡ toOpposite (table (now (cv .entry)) (now (co .entry)) (now (cm .entry)) (now (vc .entry)) (now (vm .entry))
+        (now (vp .entry)) vertices corners) (now (walker .entry) .corner .0) .step)
+        × (now (walker .exit) .corner ≡ toOpposite (table (now (cv .entry)) (now (co .entry)) (now (cm .entry)) (now (vc .entry)) (now (vm .entry))
+        (now (vp .entry)) vertices corners) (now (walker .entry) .corner .0) .corner) ⌝ }
+{
+    let m = opposite_from(walker.corner, cv, co, cm, vc, vm, vp, vertices, corners);
+    walker.corner = m.corner;
+    m.step
+}
+
+pub fn swing_left_or_stay<'s, 'a>(
+    walker: &'s mut Walker,
+    cv: &'a [u32],
+    co: &'a [u32],
+    cm: &'a [u32],
+    vc: &'a [u32],
+    vm: &'a [u32],
+    vp: &'a [f32],
+    vertices: u32,
+    corners: u32,
+) -> Step
+    ensures { λ r. ⌜ (r ≡ swungLeft (table (now (cv .entry)) (now (co .entry)) (now (cm .entry)) (now (vc .entry)) (now (vm .entry))
+        (now (vp .entry)) vertices corners) (now (walker .entry) .corner .0) .step)
+        × (now (walker .exit) .corner ≡ swungLeft (table (now (cv .entry)) (now (co .entry)) (now (cm .entry)) (now (vc .entry)) (now (vm .entry))
+        (now (vp .entry)) vertices corners) (now (walker .entry) .corner .0) .corner) ⌝ }
+{
+    let m = swing_left_from(walker.corner, cv, co, cm, vc, vm, vp, vertices, corners);
+    walker.corner = m.corner;
+    m.step
+}
+
+pub fn swing_right_or_stay<'s, 'a>(
+    walker: &'s mut Walker,
+    cv: &'a [u32],
+    co: &'a [u32],
+    cm: &'a [u32],
+    vc: &'a [u32],
+    vm: &'a [u32],
+    vp: &'a [f32],
+    vertices: u32,
+    corners: u32,
+) -> Step
+    ensures { λ r. ⌜ (r ≡ swungRight (table (now (cv .entry)) (now (co .entry)) (now (cm .entry)) (now (vc .entry)) (now (vm .entry))
+        (now (vp .entry)) vertices corners) (now (walker .entry) .corner .0) .step)
+        × (now (walker .exit) .corner ≡ swungRight (table (now (cv .entry)) (now (co .entry)) (now (cm .entry)) (now (vc .entry)) (now (vm .entry))
+        (now (vp .entry)) vertices corners) (now (walker .entry) .corner .0) .corner) ⌝ }
+{
+    let m = swing_right_from(walker.corner, cv, co, cm, vc, vm, vp, vertices, corners);
+    walker.corner = m.corner;
+    m.step
 }
