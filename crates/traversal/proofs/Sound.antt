@@ -19,12 +19,14 @@ use Rattle.table.proofs.Shape.{shaped-true}
 use Rattle.fan.proofs.Fan.{swingL, swingR, Left, Conn, Linked, OneFan, face-previous}
 use Rattle.fan.proofs.Walk.{it, Stop, border, closes, Walk}
 use Rattle.fan.proofs.Ring.{stuckL, stuckR, open-right}
-use Rattle.fan.proofs.Visits.{after, length-after, Covers, Sound, w, v, leftward, rightward, ring-covers, fan-covers, total, covers-sound}
+use Rattle.fan.proofs.Visits.{after, length-after, Distinct, Covers, Sound, w, v, leftward, rightward, ring-covers, fan-covers, total, covers-sound}
 use Rattle.fan.proofs.Tables.{table-linked, table-fan}
 use Rattle.traversal.specs.Walk as Specs
 use Rattle.traversal.specs.Walk.{faceLive, swing, Side, stop, more, side, leftOf, rightOf, tangled, closed, open′, afterLeft, afterRight, walk, visits}
 use Rattle.traversal.specs.Lists.{entries}
 use Rattle.traversal.specs.Ring.{listed, refused, walked, usedCorners, usedVertices, walkOf, ringOf}
+use Rattle.traversal.specs.Promises.{VisitsBounded, NeverTangled, NoneTwice, Exact, VisitsExact}
+use Rattle.traversal.proofs.Answers.{visits-bound}
 use Rattle.traversal.proofs.Steps.{lives-face, swing-border, swing-to, side-border, side-closed, side-more}
 use Rattle.traversal.specs.declared.Kind.{Kind}
 use Rattle.traversal.specs.declared.End.{End}
@@ -215,9 +217,9 @@ module _ (t : Table) (S : Shaped t) (W : WellFormed t) where
     visits-vertex d l e = vertex-sound .to d l (e ∙ sym (W .cornerOwn u h))
 
   -- a ring call never answers 15
-  pub never-15 : (kind : Kind) (u : ℕ) (list : List ℕ) → ringOf kind u t list .answer ≢ 15
+  ring-never-15 : (kind : Kind) (u : ℕ) (list : List ℕ) → ringOf kind u t list .answer ≢ 15
   unfolding ringOf
-  never-15 kind u list e = by-1 (shaped t) refl
+  ring-never-15 kind u list e = by-1 (shaped t) refl
     where
       by-10 : shaped t ≡ true → ltb u (usedVertices t) ≡ true → (b : Bool) → eqb (markAt (t .vertexMark) u) 0 ≡ b → ⊥
       by-10 a k true q =
@@ -232,3 +234,45 @@ module _ (t : Table) (S : Shaped t) (W : WellFormed t) where
       by-1 : (b : Bool) → shaped t ≡ b → ⊥
       by-1 true a = by-9 a (ltb u (usedVertices t)) refl
       by-1 false a = let z : _≡_ {A = ℕ} 1 15 = rw a at e in omega arith
+
+-- ---- the statements of specs/Promises.antt
+
+pub never-15 : NeverTangled
+never-15 t S W kind v list = ring-never-15 t S W kind v list
+
+none-twice : (l : List ℕ) → Distinct l → NoneTwice l
+none-twice [] d = tt
+none-twice (x ∷ l) d = (d .0, none-twice l (d .1))
+
+pub visits-exact : VisitsExact
+visits-exact t S W v h =
+    record {
+      only = vertex-visits t S W v h;
+      all = visits-vertex t S W v h;
+      once = none-twice (visits (walkOf t v)) (vertex-sound t S W v h .distinct);
+    }
+
+listed-bound : (m n : ℕ) (es list : List ℕ) → m ≤ n → listed m es list .visited ≤ n
+listed-bound m n es list h = go (leb (length es) (length list))
+  where
+    go : (b : Bool) → cond b (record { answer = 0; visited = m; written = length es; list = es ++ drop (length es) list }) (refused 16 list) .visited ≤ n
+    go true = h
+    go false = omega arith
+
+walked-bound : (kind : Kind) (cv : List ℕ) (x : Specs.Walk) (list : List ℕ) (n : ℕ) → length (visits x) ≤ n → walked kind cv x list .visited ≤ n
+walked-bound kind cv tangled list n h = omega arith
+walked-bound kind cv (closed c l) list n h = listed-bound (length (visits (closed c l))) n (entries kind cv (closed c l)) list h
+walked-bound kind cv (open′ c l r) list n h = listed-bound (length (visits (open′ c l r))) n (entries kind cv (open′ c l r)) list h
+
+pub visited-bound : VisitsBounded
+unfolding ringOf
+visited-bound kind v t list = go (shaped t) (ltb v (usedVertices t)) (eqb (markAt (t .vertexMark) v) 0)
+  where
+    go : (a b c : Bool)
+        → cond a (cond b (cond c (walked kind (t .cornerVertex) (walkOf t v) list) (refused 10 list)) (refused 9 list)) (refused 1 list) .visited ≤ usedCorners t
+    go true true true =
+        walked-bound kind (t .cornerVertex) (walkOf t v) list (usedCorners t)
+        (visits-bound (t .cornerOpposite) (t .cornerMark) (usedCorners t) (corner t v))
+    go true true false = omega arith
+    go true false c = omega arith
+    go false b c = omega arith

@@ -2,3 +2,4 @@
 pub mod Walk
 pub mod Lists
 pub mod Ring
+pub mod Promises
