@@ -176,6 +176,16 @@ outcome-is : (r : Ring) (l l′ : List ℕ) (a n m : ℕ) → r .answer ≡ a �
     → outcome r l ≡ record { answer = a; visited = n; written = m; list = l′ }
 outcome-is r l l′ a n m p q s e = λ i. record { answer = p i; visited = q i; written = s i; list = e i }
 
+-- an outcome determines what was handed back and what is left
+pub outcome-settles : (r r′ : Ring) (l l′ : List ℕ) → outcome r l ≡ outcome r′ l′ → (r ≡ r′) × (l ≡ l′)
+outcome-settles r r′ l l′ e = (
+  ap (λ (o : Outcome). ring-of o) e,
+  ap (λ (o : Outcome). o .list) e,
+)
+  where
+    ring-of : Outcome → Ring
+    ring-of o = record { answer = o .answer; visited = o .visited; written = o .written }
+
 abbrev pub Refused : Ring → ℕ → Type 0
 Refused r a = (r .answer ≡ a) × (r .visited ≡ 0) × (r .written ≡ 0)
 

@@ -15,8 +15,10 @@ pub record Counting (whole here : Side) (room rest : ℕ) : Type 0 where
   pub count : length (whole .visits) ≡ (room - rest) + length (here .visits)
   pub ends : whole .end ≡ here .end
 
-pub counting-start : (s : Side) (room : ℕ) → Counting s s room room
-counting-start s room = record { le = omega arith; count = omega arith; ends = refl }
+pub counting-start : (s h : Side) (room : ℕ) → h ≡ s → Counting s h room room
+counting-start s h room e =
+    let l : length (s .visits) ≡ length (h .visits) = sym (ap (λ (x : Side). length (x .visits)) e) in
+    record { le = omega arith; count = omega arith; ends = sym (ap (λ (x : Side). x .end) e) }
 
 module _ (whole here : Side) (room rest : ℕ) (k : Counting whole here room rest) where
   pub counting-stop : (e : End) → here ≡ stop e → (room - rest ≡ length (whole .visits)) × (e ≡ whole .end)
@@ -38,8 +40,9 @@ pub record Writing (f : ℕ → ℕ) (whole here : Side) (l₀ l : List ℕ) (fi
   pub place : i + rest ≡ first + room
   pub list : sets l i (map f (here .visits)) ≡ sets l₀ first (map f (whole .visits))
 
-pub writing-start : (f : ℕ → ℕ) (s : Side) (l : List ℕ) (first room : ℕ) → Writing f s s l l first room room first
-writing-start f s l first room = record { size = refl; place = refl; list = refl }
+pub writing-start : (f : ℕ → ℕ) (s h : Side) (l : List ℕ) (first room : ℕ) → h ≡ s → Writing f s h l l first room room first
+writing-start f s h l first room e =
+    record { size = refl; place = refl; list = ap (λ (x : Side). sets l first (map f (x .visits))) e }
 
 module _ (f : ℕ → ℕ) (whole here : Side) (l₀ l : List ℕ) (first room rest i : ℕ) (k : Writing f whole here l₀ l first room rest i) where
   pub writing-stop : (e : End) → here ≡ stop e → l ≡ sets l₀ first (map f (whole .visits))

@@ -3,7 +3,7 @@ use Prim.Native.Nat.{ℕ, zero, suc, _+_, _-_, _<_, _≤_, suc-le-suc}
 use mathlib.Core.Path.{_≡_, refl, sym, ap, _∙_}
 use mathlib.Core.Logic.{_≢_}
 use mathlib.Core.List.{List, [], _∷_}
-use mathlib.Core.Bool.{Bool, true, false, cond, _&&_, false≢true}
+use mathlib.Core.Bool.{Bool, true, false, not, cond, _&&_, false≢true}
 use native.Mathlib.Nat.{suc-sub-suc, sub-zero}
 use native.Mathlib.Omega.{arith}
 use borrow.Author.Tests.{eq-eqb, ne-eqb, eqb-true}
@@ -11,11 +11,11 @@ use lib.ListN.{length}
 use lib.Dec.{eqb}
 use Rattle.corner.specs.Corner.{absent, next, previous, turn}
 use Rattle.corner.specs.declared.Corner.{Corner}
-use Rattle.corner.proofs.Turns.{turn-below}
+use Rattle.corner.proofs.Turns.{turn-below, next-next, next-previous, previous-next, previous-previous}
 use Rattle.table.specs.Slots.{oppositeAt, markAt}
 use Rattle.table.specs.Table.{live}
 use Rattle.table.proofs.Lives.{live-true, true-live}
-use Rattle.traversal.specs.Walk.{faceLive, onto, swing, Side, closes, stop, more, onSwing, side}
+use Rattle.traversal.specs.Walk.{faceLive, onto, across, swing, Side, closes, stop, more, onSwing, side}
 use Rattle.traversal.specs.declared.Swing.{Swing}
 use Rattle.traversal.specs.declared.Swing.the-variants.{Border, Tangled, To}
 use Rattle.traversal.specs.declared.End.{End}
@@ -157,3 +157,87 @@ module _ (left : Bool) (opp mark : List ℕ) (used : ℕ) where
     side-bound zero c = none (swing left opp mark used c)
     side-bound (suc room) c =
         one-more room (λ d. side left opp mark used c₀ room d) (λ d. side-bound room d) (swing left opp mark used c)
+
+-- ---- the same turn of the walk from the slot that it crosses: the corner itself is that slot turned back
+
+turn-back : (left : Bool) (c : ℕ) → turn (not left) (turn left c) ≡ c
+turn-back true c = previous-next c
+turn-back false c = next-previous c
+
+turn-forth : (left : Bool) (c : ℕ) → turn left (turn (not left) c) ≡ c
+turn-forth true c = next-previous c
+turn-forth false c = previous-next c
+
+turn-twice : (left : Bool) (c : ℕ) → turn (not left) (turn (not left) c) ≡ turn left c
+turn-twice true c = previous-previous c
+turn-twice false c = next-next c
+
+module _ (mark : List ℕ) (used o x : ℕ) (at : o ≡ x) where
+  pub across-border : o ≡ absent → Border ≡ across mark used x
+  unfolding across
+  across-border h = rw (← at, eq-eqb _ _ h)
+
+  module _ (there : o ≢ absent) (b : Bool) (is : b ≡ faceLive mark used o) where
+    pub across-tangled : b ≡ false → Tangled ≡ across mark used x
+    unfolding across
+    across-tangled h = rw (← at, ne-eqb _ _ there, ← is, h)
+
+    pub across-to : b ≡ true → To (record { 0 = o }) ≡ across mark used x
+    unfolding across
+    across-to h = rw (← at, ne-eqb _ _ there, ← is, h)
+
+-- the last turn
+turned : Bool → Swing → Swing
+turned left Border = Border
+turned left Tangled = Tangled
+turned left (To o) = To (record { 0 = turn left (o .0) })
+
+swing-across : (left : Bool) (opp mark : List ℕ) (used via : ℕ)
+    → turned left (across mark used (oppositeAt opp via)) ≡ swing left opp mark used (turn (not left) via)
+unfolding turned across swing
+swing-across left opp mark used via =
+    rw (turn-forth left via) (go (eqb (oppositeAt opp via) absent) (faceLive mark used (oppositeAt opp via)))
+  where
+    go : (a b : Bool) → turned left (cond a Border (cond b (To (record { 0 = oppositeAt opp via })) Tangled))
+        ≡ cond a Border (cond b (To (record { 0 = turn left (oppositeAt opp via) })) Tangled)
+    go true b = refl
+    go false true = refl
+    go false false = refl
+
+module _ (left : Bool) (opp mark : List ℕ) (used : ℕ) where
+  pub side-start : (c₀ room via : ℕ) → via ≡ turn left c₀ → side left opp mark used c₀ room (turn (not left) via) ≡ side left opp mark used c₀ room c₀
+  side-start c₀ room via e = ap (λ (c : ℕ). side left opp mark used c₀ room c) (ap (turn (not left)) e ∙ turn-back left c₀)
+
+  module _ (c₀ via : ℕ) (r : Swing) (is : r ≡ across mark used (oppositeAt opp via)) where
+    by : turned left r ≡ swing left opp mark used (turn (not left) via)
+    by = ap (turned left) is ∙ swing-across left opp mark used via
+
+    pub over-border : (room : ℕ) → r ≡ Border → side left opp mark used c₀ room (turn (not left) via) ≡ stop AtBorder
+    unfolding turned
+    over-border room h = side-border left opp mark used c₀ (turn (not left) via) (turned left r) by room (ap (turned left) h)
+
+    pub over-tangled : (room : ℕ) → r ≡ Tangled → side left opp mark used c₀ room (turn (not left) via) ≡ stop AtTangle
+    unfolding turned
+    over-tangled room h = side-tangled left opp mark used c₀ (turn (not left) via) (turned left r) by room (ap (turned left) h)
+
+    module _ (o : Corner) (to : r ≡ To o) where
+      pub over-below : used ≤ absent → turn left (o .0) < absent
+      unfolding turned
+      over-below u = to-below left opp mark used u (turn (not left) via) (turned left r) by (record { 0 = turn left (o .0) }) (ap (turned left) to)
+
+      module _ (d : Corner) (at : d .0 ≡ turn left (o .0)) (t : Bool) (test : t ≡ closes left c₀ (d .0)) where
+        lands : turned left r ≡ To d
+        unfolding turned
+        lands = ap (turned left) to ∙ ap (λ (n : ℕ). To (record { 0 = n })) (sym at)
+
+        pub over-closed : (room : ℕ) → t ≡ true → side left opp mark used c₀ room (turn (not left) via) ≡ stop AtStart
+        over-closed room h = side-closed left opp mark used c₀ (turn (not left) via) (turned left r) by d lands t test room h
+
+        pub over-out : (room : ℕ) → t ≡ false → room ≡ 0 → side left opp mark used c₀ room (turn (not left) via) ≡ stop AtTangle
+        over-out room h z = side-out left opp mark used c₀ (turn (not left) via) (turned left r) by d lands t test room h z
+
+        pub over-more : (room : ℕ) → t ≡ false → (room ≡ 0 → ⊥) → (on : ℕ) → on ≡ turn (not left) (o .0)
+            → side left opp mark used c₀ room (turn (not left) via) ≡ more (d .0) (side left opp mark used c₀ (room - 1) (turn (not left) on))
+        over-more room h p on e =
+            side-more left opp mark used c₀ (turn (not left) via) (turned left r) by d lands t test room h p
+            ∙ ap (λ (c : ℕ). more (d .0) (side left opp mark used c₀ (room - 1) c)) (at ∙ sym (ap (turn (not left)) e ∙ turn-twice left (o .0)))

@@ -24,6 +24,10 @@ onto left mark used o = cond (eqb o absent) Border (cond (faceLive mark used o) 
 unfoldable pub swing : Bool → List ℕ → List ℕ → ℕ → ℕ → Swing
 swing left opp mark used c = onto left mark used (oppositeAt opp (turn left c))
 
+-- the same before the last turn, as the code's loops have it: what lies across an edge
+unfoldable pub across : List ℕ → ℕ → ℕ → Swing
+across mark used o = cond (eqb o absent) Border (cond (faceLive mark used o) (To (record { 0 = o })) Tangled)
+
 -- one side of a walk: the corners that it visits, in order, and how it ends
 pub record Side : Type 0 where
   pub visits : List ℕ

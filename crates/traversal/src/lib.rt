@@ -9,8 +9,9 @@ ghost use Prim.Native.Nat.{_<_, _≤_, min};
 ghost use lib.ListN.{length};
 ghost use lib.Seq.{sets};
 ghost use Rattle.corner.specs.Corner.{absent};
+ghost use Rattle.table.specs.Slots.{oppositeAt};
 ghost use Rattle.table.specs.Table.{table};
-ghost use Rattle.traversal.specs.Walk.{faceLive, swing, closes as closesOf, side, walk};
+ghost use Rattle.traversal.specs.Walk.{faceLive, across, swing, closes as closesOf, side, walk};
 ghost use Rattle.traversal.specs.Lists.{entry as entryOf, twice as twiceOf};
 ghost use Rattle.traversal.specs.Ring.{outcome, walked, ringOf, counted};
 ghost use Rattle.traversal.specs.declared.Counted.the-variants.{Closed, Open};
@@ -94,6 +95,21 @@ pub fn swing_from(left: bool, co: &[u32], cm: &[u32], used: u32, c: Corner) -> S
     Swing::Tangled
 }
 
+// What lies across the edge at a slot: a border, or a corner whose face has to be live. A loop over a walk crosses from slot to slot,
+// as the Rust does, so that a step turns about one corner only.
+pub fn cross(co: &[u32], cm: &[u32], used: u32, via: usize) -> Swing
+    ensures { λ r. ⌜ r ≡ across (now (cm .entry)) used (oppositeAt (now (co .entry)) via) ⌝ }
+{
+    let o = at(co, via, 4294967295);
+    if o == 4294967295 {
+        return Swing::Border;
+    }
+    if face_live(cm, used, Corner(o)) {
+        return Swing::To(Corner(o));
+    }
+    Swing::Tangled
+}
+
 // Whether a swing that leads to d closes the ring that began at start.
 pub fn closes(left: bool, start: Corner, d: Corner) -> bool
     ensures { λ r. ⌜ r ≡ closesOf left (start .0) (d .0) ⌝ }
@@ -108,10 +124,10 @@ pub fn count_side(left: bool, co: &[u32], cm: &[u32], used: u32, start: Corner, 
     ensures { λ r. ⌜ (r .visits ≡ length (side left (now (co .entry)) (now (cm .entry)) used (start .0) room (start .0) .visits))
         × (r .end ≡ side left (now (co .entry)) (now (cm .entry)) used (start .0) room (start .0) .end) ⌝ }
 {
-    let mut c = start;
+    let mut via = start.turn_index(left);
     let mut rest = room;
     loop {
-        let s = swing_from(left, co, cm, used, c);
+        let s = cross(co, cm, used, via);
         match s {
             Swing::Border => {
                 return Count {
@@ -125,7 +141,8 @@ pub fn count_side(left: bool, co: &[u32], cm: &[u32], used: u32, start: Corner, 
                     end: End::AtTangle,
                 };
             }
-            Swing::To(d) => {
+            Swing::To(o) => {
+                let d = Corner(o.turn_index(left) as u32);
                 if closes(left, start, d) {
                     return Count {
                         visits: room - rest,
@@ -139,7 +156,7 @@ pub fn count_side(left: bool, co: &[u32], cm: &[u32], used: u32, start: Corner, 
                     };
                 }
                 rest -= 1;
-                c = d;
+                via = o.turn_index(!left);
             }
         }
     }
@@ -217,11 +234,11 @@ fn write_side(
     ensures { λ r. ⌜ now (list .exit) ≡ sets (now (list .entry)) first
         (map (entryOf kind (now (cv .entry)) left) (side left (now (co .entry)) (now (cm .entry)) used (start .0) room (start .0) .visits)) ⌝ }
 {
-    let mut c = start;
+    let mut via = start.turn_index(left);
     let mut rest = room;
     let mut i = first;
     loop {
-        let s = swing_from(left, co, cm, used, c);
+        let s = cross(co, cm, used, via);
         match s {
             Swing::Border => {
                 return;
@@ -229,7 +246,8 @@ fn write_side(
             Swing::Tangled => {
                 return;
             }
-            Swing::To(d) => {
+            Swing::To(o) => {
+                let d = Corner(o.turn_index(left) as u32);
                 if closes(left, start, d) {
                     return;
                 }
@@ -239,7 +257,7 @@ fn write_side(
                 put(list, i, entry(kind, cv, left, d));
                 i += 1;
                 rest -= 1;
-                c = d;
+                via = o.turn_index(!left);
             }
         }
     }
