@@ -1,0 +1,311 @@
+-- The whole walk by what its two sides were found to be, and a call's outcome, an arm at a time. Assumes nothing.
+use Prim.Native.Nat.{ℕ, suc, _+_, _-_, _*_, _<_, _≤_, min}
+use mathlib.Core.Path.{_≡_, refl, sym, ap, _∙_}
+use mathlib.Core.List.{List, [], _∷_, _++_, map}
+use mathlib.Core.Bool.{Bool, true, false, cond, _&&_, false≢true}
+use native.Mathlib.Omega.{arith}
+use native.Mathlib.Nat.{add-zero, zero-add, add-suc, suc-add}
+use native.Mathlib.Numerals.{add-one}
+use borrow.Author.Tests.{leb-true, le-leb, lt-leb, lt-ltb, le-ltb, eq-eqb, ne-eqb}
+use lib.ListN.{length, getD, drop, set, length-map, length-append}
+use lib.Seq.{sets, sets-eq}
+use Rattle.table.specs.Slots.{markAt}
+use lib.Dec.{leb}
+use Rattle.table.specs.Table.{Table, shaped, shapedBy, maxCorners, corner}
+use Rattle.traversal.specs.Walk.{faceLive, Side, side, Walk, tangled, closed, open′, leftOf, rightOf, afterLeft, afterRight, walk, visits}
+use Rattle.traversal.specs.Lists.{entry, twice, entries}
+use Rattle.traversal.specs.Ring.{Outcome, outcome, refused, listed, walked, usedCorners, usedVertices, walkOf, ringOf, counted}
+use Rattle.traversal.proofs.Steps.{side-bound, face-used}
+use Rattle.traversal.specs.declared.Kind.{Kind}
+use Rattle.traversal.specs.declared.Counted.{Counted}
+use Rattle.traversal.specs.declared.Counted.the-variants.{Tangled, Closed, Open}
+use Rattle.traversal.specs.declared.End.{End}
+use Rattle.traversal.specs.declared.End.the-variants.{AtBorder, AtTangle, AtStart}
+use Rattle.traversal.specs.declared.Ring.{Ring}
+
+no-way : {A : Type 0} → _≡_ {A = ℕ} 0 1 → A
+no-way z = absurd (omega arith)
+
+-- ---- the walk, by its sides
+
+module _ (opp mark : List ℕ) (used c : ℕ) where
+  pub counted-dead : (t : Bool) → t ≡ faceLive mark used c → t ≡ false → Tangled ≡ counted (walk opp mark used c)
+  unfolding walk
+  counted-dead t is off = rw (← is, off)
+
+  module _ (t : Bool) (is : t ≡ faceLive mark used c) (on : t ≡ true) (n : ℕ) (e : End)
+      (found : (n ≡ length (side true opp mark used c (used - 1) c .visits)) × (e ≡ side true opp mark used c (used - 1) c .end)) where
+    pub counted-tangle : e ≡ AtTangle → Tangled ≡ counted (walk opp mark used c)
+    unfolding walk leftOf rightOf afterLeft
+    counted-tangle h = rw (← is, on, ← found .1, h)
+
+    pub counted-closed : e ≡ AtStart → Closed n ≡ counted (walk opp mark used c)
+    unfolding walk leftOf rightOf afterLeft
+    counted-closed h = rw (← is, on, ← found .1, h) (ap Closed (found .0))
+
+    module _ (h : e ≡ AtBorder) (m : ℕ) (f : End)
+        (found′ : (m ≡ length (side false opp mark used c (used - 1 - n) c .visits)) × (f ≡ side false opp mark used c (used - 1 - n) c .end)) where
+      pub counted-tangle′ : f ≡ AtTangle → Tangled ≡ counted (walk opp mark used c)
+      unfolding walk leftOf rightOf afterLeft afterRight
+      counted-tangle′ k = rw (← is, on, ← found .1, h, ← found .0, ← found′ .1, k)
+
+      pub counted-start′ : f ≡ AtStart → Tangled ≡ counted (walk opp mark used c)
+      unfolding walk leftOf rightOf afterLeft afterRight
+      counted-start′ k = rw (← is, on, ← found .1, h, ← found .0, ← found′ .1, k)
+
+      pub counted-open : f ≡ AtBorder → Open n m ≡ counted (walk opp mark used c)
+      unfolding walk leftOf rightOf afterLeft afterRight
+      counted-open k = rw (← is, on, ← found .1, h, ← found .0, ← found′ .1, k, ← found .0, ← found′ .0)
+
+  pub left-bound : length (leftOf opp mark used c .visits) ≤ used - 1
+  unfolding leftOf
+  left-bound = side-bound true opp mark used c (used - 1) c
+
+  pub right-bound : length (rightOf opp mark used c .visits) ≤ used - 1 - length (leftOf opp mark used c .visits)
+  unfolding rightOf
+  right-bound = side-bound false opp mark used c (used - 1 - length (leftOf opp mark used c .visits)) c
+
+  pub left-is : side true opp mark used c (used - 1) c ≡ leftOf opp mark used c
+  unfolding leftOf
+  left-is = refl
+
+  pub right-is : (n : ℕ) → n ≡ length (leftOf opp mark used c .visits) → side false opp mark used c (used - 1 - n) c ≡ rightOf opp mark used c
+  unfolding rightOf
+  right-is n h = rw h
+
+  -- which of three a walk is
+  pub data View : Type 0 where
+    v-tangled : walk opp mark used c ≡ tangled → View
+    v-closed : c < used → walk opp mark used c ≡ closed c (leftOf opp mark used c .visits) → View
+    v-open : c < used → walk opp mark used c ≡ open′ c (leftOf opp mark used c .visits) (rightOf opp mark used c .visits) → View
+
+  view-right : faceLive mark used c ≡ true → leftOf opp mark used c .end ≡ AtBorder → (f : End) → rightOf opp mark used c .end ≡ f → View
+  unfolding walk afterLeft afterRight
+  view-right l e AtBorder h = v-open (face-used mark used c l) (rw (l, e, h))
+  view-right l e AtTangle h = v-tangled (rw (l, e, h))
+  view-right l e AtStart h = v-tangled (rw (l, e, h))
+
+  view-left : faceLive mark used c ≡ true → (e : End) → leftOf opp mark used c .end ≡ e → View
+  unfolding walk afterLeft
+  view-left l AtBorder h = view-right l h (rightOf opp mark used c .end) refl
+  view-left l AtTangle h = v-tangled (rw (l, h))
+  view-left l AtStart h = v-closed (face-used mark used c l) (rw (l, h))
+
+  view-live : (b : Bool) → faceLive mark used c ≡ b → View
+  unfolding walk
+  view-live true h = view-left h (leftOf opp mark used c .end) refl
+  view-live false h = v-tangled (rw h)
+
+  pub view : View
+  view = view-live (faceLive mark used c) refl
+
+  -- "limited by the table's corner count": a walk visits no more corners than are used, on any table
+  pub visits-bound : length (visits (walk opp mark used c)) ≤ used
+  visits-bound = go view
+    where
+      go : View → length (visits (walk opp mark used c)) ≤ used
+      go (v-tangled e) = rw e (omega arith)
+      go (v-closed w e) = rw e (omega (arith, left-bound))
+      go (v-open w e) =
+          rw e (omega (arith, left-bound, right-bound, length-append (c ∷ leftOf opp mark used c .visits) (rightOf opp mark used c .visits)))
+
+  -- a closed ring, and an open fan, known by their counts
+  pub record IsClosed (n : ℕ) : Type 0 where
+    pub start : c < used
+    pub is : walk opp mark used c ≡ closed c (leftOf opp mark used c .visits)
+    pub count : n ≡ length (leftOf opp mark used c .visits)
+    pub bound : n + 1 ≤ used
+
+  pub record IsOpen (n m : ℕ) : Type 0 where
+    pub start : c < used
+    pub is : walk opp mark used c ≡ open′ c (leftOf opp mark used c .visits) (rightOf opp mark used c .visits)
+    pub count : n ≡ length (leftOf opp mark used c .visits)
+    pub count′ : m ≡ length (rightOf opp mark used c .visits)
+    pub bound : n + 1 + m ≤ used
+
+  pub was-tangled : Tangled ≡ counted (walk opp mark used c) → walk opp mark used c ≡ tangled
+  was-tangled h = go view
+    where
+      go : View → walk opp mark used c ≡ tangled
+      go (v-tangled e) = e
+      go (v-closed i e) = no-way (cc (ap counted e))
+      go (v-open i e) = no-way (cc (ap counted e))
+
+  pub was-closed : (n : ℕ) → Closed n ≡ counted (walk opp mark used c) → IsClosed n
+  was-closed n h = go view
+    where
+      go : View → IsClosed n
+      go (v-tangled e) = no-way (cc (ap counted e))
+      go (v-closed i e) =
+          let k : n ≡ length (leftOf opp mark used c .visits) = cc (ap counted e) in
+          record { start = i; is = e; count = k; bound = omega (arith, left-bound) }
+      go (v-open i e) = no-way (cc (ap counted e))
+
+  pub was-open : (n m : ℕ) → Open n m ≡ counted (walk opp mark used c) → IsOpen n m
+  was-open n m h = go view
+    where
+      go : View → IsOpen n m
+      go (v-tangled e) = no-way (cc (ap counted e))
+      go (v-closed i e) = no-way (cc (ap counted e))
+      go (v-open i e) =
+          let k : n ≡ length (leftOf opp mark used c .visits) = cc (ap counted e) in
+          let k′ : m ≡ length (rightOf opp mark used c .visits) = cc (ap counted e) in
+          record { start = i; is = e; count = k; count′ = k′; bound = omega (arith, left-bound, right-bound) }
+
+-- ---- what was written
+
+pub sets-append : (l : List ℕ) (i : ℕ) (xs ys : List ℕ) → sets l i (xs ++ ys) ≡ sets (sets l i xs) (i + length xs) ys
+sets-append l i [] ys = rw add-zero
+sets-append l i (x ∷ xs) ys = sets-append (set l i x) (suc i) xs ys ∙ rw (add-suc, suc-add)
+
+sets-front : (l es : List ℕ) → length es ≤ length l → sets l 0 es ≡ es ++ drop (length es) l
+sets-front l es h = sets-eq es l 0 (rw zero-add h) ∙ rw zero-add
+
+-- one part, with the first corner's entry or without
+module _ (f : ℕ → ℕ) (last l : List ℕ) (i c : ℕ) (s : List ℕ) (b : Bool) where
+  pub part-whole : (mid : List ℕ) (v : ℕ) → v ≡ f c → mid ≡ set l i v → last ≡ sets mid (i + 1) (map f s) → b ≡ true
+      → last ≡ sets l i (map f (cond b (c ∷ s) s))
+  part-whole mid v e m w h = w ∙ rw (h, m, e, add-one)
+
+  pub part-rest : last ≡ sets l i (map f s) → b ≡ false → last ≡ sets l i (map f (cond b (c ∷ s) s))
+  part-rest w h = w ∙ rw h
+
+-- ---- an answer as an outcome
+
+outcome-is : (r : Ring) (l l′ : List ℕ) (a n m : ℕ) → r .answer ≡ a → r .visited ≡ n → r .written ≡ m → l ≡ l′
+    → outcome r l ≡ record { answer = a; visited = n; written = m; list = l′ }
+outcome-is r l l′ a n m p q s e = λ i. record { answer = p i; visited = q i; written = s i; list = e i }
+
+-- an outcome determines what was handed back and what is left
+pub outcome-settles : (r r′ : Ring) (l l′ : List ℕ) → outcome r l ≡ outcome r′ l′ → (r ≡ r′) × (l ≡ l′)
+outcome-settles r r′ l l′ e = (
+  ap (λ (o : Outcome). ring-of o) e,
+  ap (λ (o : Outcome). o .list) e,
+)
+  where
+    ring-of : Outcome → Ring
+    ring-of o = record { answer = o .answer; visited = o .visited; written = o .written }
+
+abbrev pub Refused : Ring → ℕ → Type 0
+Refused r a = (r .answer ≡ a) × (r .visited ≡ 0) × (r .written ≡ 0)
+
+refusal : (r : Ring) (l : List ℕ) (a : ℕ) → Refused r a → outcome r l ≡ refused a l
+refusal r l a h = outcome-is r l l a 0 0 (h .0) (h .1) (h .2) refl
+
+module _ (r : Ring) (n : ℕ) (es list : List ℕ) where
+  listed-done : (last : List ℕ) → r .answer ≡ 0 → r .visited ≡ n → r .written ≡ length es → length es ≤ length list → last ≡ sets list 0 es
+      → outcome r last ≡ listed n es list
+  listed-done last a v w h e = rw (le-leb _ _ h, ← sets-front list es h) (outcome-is r last (sets list 0 es) 0 n (length es) a v w e)
+
+  listed-short : Refused r 16 → length list < length es → outcome r list ≡ listed n es list
+  listed-short q h = rw (lt-leb _ _ h) (refusal r list 16 q)
+
+-- how many entries a walk's list has
+length-cond : (b : Bool) (c : ℕ) (r : List ℕ) → length (cond b (c ∷ r) r) ≡ length r + cond b 1 0
+length-cond true c r = omega arith
+length-cond false c r = omega arith
+
+pub one-at-most : (b : Bool) → cond b 1 0 ≤ 1
+one-at-most true = omega arith
+one-at-most false = omega arith
+
+closed-size : (kind : Kind) (cv : List ℕ) (c : ℕ) (l : List ℕ) → length (entries kind cv (closed c l)) ≡ length l + 1
+closed-size kind cv c l = length-map (c ∷ l) (entry kind cv true) ∙ omega arith
+
+open-size : (kind : Kind) (cv : List ℕ) (c : ℕ) (l r : List ℕ)
+    → length (entries kind cv (open′ c l r)) ≡ length l + 1 + length r + cond (twice kind) 1 0
+open-size kind cv c l r =
+    length-append (map (entry kind cv true) (c ∷ l)) (map (entry kind cv false) (cond (twice kind) (c ∷ r) r))
+    ∙ omega (arith, length-map (c ∷ l) (entry kind cv true), length-map (cond (twice kind) (c ∷ r) r) (entry kind cv false), length-cond (twice kind) c r)
+
+module _ (kind : Kind) (cv opp mark : List ℕ) (used c : ℕ) (list : List ℕ) where
+  pub answer-tangled : (r : Ring) → Refused r 15 → walk opp mark used c ≡ tangled → outcome r list ≡ walked kind cv (walk opp mark used c) list
+  answer-tangled r h e = rw e (refusal r list 15 h)
+
+  module _ (n : ℕ) (k : IsClosed opp mark used c n) (r : Ring) where
+    lv : List ℕ
+    lv = leftOf opp mark used c .visits
+
+    pub closed-short : Refused r 16 → length list < n + 1 → outcome r list ≡ walked kind cv (walk opp mark used c) list
+    unfolding lv
+    closed-short h l =
+        let size = closed-size kind cv c lv in
+        rw (k .is) (listed-short r (length (visits (closed c lv))) (entries kind cv (closed c lv)) list h (omega (arith, k .count)))
+
+    pub closed-done : (last : List ℕ) → r .answer ≡ 0 → r .visited ≡ n + 1 → r .written ≡ n + 1 → n + 1 ≤ length list
+        → last ≡ sets list 0 (map (entry kind cv true) (c ∷ side true opp mark used c (used - 1) c .visits))
+        → outcome r last ≡ walked kind cv (walk opp mark used c) list
+    unfolding lv leftOf
+    closed-done last a v w l e =
+        let size = closed-size kind cv c lv in
+        rw (k .is)
+        (listed-done r (length (visits (closed c lv))) (entries kind cv (closed c lv)) list last a
+        (omega (arith, k .count)) (omega (arith, k .count)) (omega (arith, k .count)) e)
+
+  module _ (n m x : ℕ) (k : IsOpen opp mark used c n m) (extra : x ≡ cond (twice kind) 1 0) (r : Ring) where
+    lv′ : List ℕ
+    lv′ = leftOf opp mark used c .visits
+
+    rv : List ℕ
+    rv = rightOf opp mark used c .visits
+
+    pub open-short : Refused r 16 → length list < n + 1 + m + x → outcome r list ≡ walked kind cv (walk opp mark used c) list
+    unfolding lv′ rv
+    open-short h l =
+        let size = open-size kind cv c lv′ rv in
+        rw (k .is) (listed-short r (length (visits (open′ c lv′ rv))) (entries kind cv (open′ c lv′ rv)) list h (omega (arith, k .count, k .count′)))
+
+    pub open-done : (b : Bool) (i : ℕ) (mid last : List ℕ) → b ≡ twice kind → r .answer ≡ 0 → r .visited ≡ n + 1 + m → r .written ≡ n + 1 + m + x
+        → n + 1 + m + x ≤ length list → i ≡ n + 1
+        → mid ≡ sets list 0 (map (entry kind cv true) (c ∷ side true opp mark used c (used - 1) c .visits))
+        → last ≡ sets mid i (map (entry kind cv false)
+        (cond b (c ∷ side false opp mark used c (used - 1 - n) c .visits) (side false opp mark used c (used - 1 - n) c .visits)))
+        → outcome r last ≡ walked kind cv (walk opp mark used c) list
+    unfolding lv′ rv
+    open-done b i mid last t a v w l at e e′ =
+        let size = open-size kind cv c lv′ rv in
+        let els : List ℕ = map (entry kind cv true) (c ∷ lv′) in
+        let ers : List ℕ = map (entry kind cv false) (cond (twice kind) (c ∷ rv) rv) in
+        let here : i ≡ 0 + length els = omega (arith, k .count, length-map (c ∷ lv′) (entry kind cv true)) in
+        let one : mid ≡ sets list 0 els = e ∙ rw (left-is opp mark used c) in
+        let two : last ≡ sets mid i ers = e′ ∙ rw (right-is opp mark used c n (k .count), t) in
+        let all : last ≡ sets list 0 (els ++ ers) =
+        two ∙ ap (λ (l′ : List ℕ). sets l′ i ers) one ∙ ap (λ (j : ℕ). sets (sets list 0 els) j ers) here ∙ sym (sets-append list 0 els ers) in
+        rw (k .is)
+        (listed-done r (length (visits (open′ c lv′ rv))) (entries kind cv (open′ c lv′ rv)) list last a
+        (omega (arith, k .count, k .count′, length-append (c ∷ lv′) rv))
+        (omega (arith, k .count, k .count′))
+        (omega (arith, k .count, k .count′))
+        all)
+
+-- ---- the order of the answers 1, 9, 10 and the rest
+
+module _ (kind : Kind) (v : ℕ) (t : Table) (list : List ℕ) (r : Ring) (b : Bool) (is : b ≡ shaped t) where
+  pub ring-1 : Refused r 1 → b ≡ false → outcome r list ≡ ringOf kind v t list
+  unfolding ringOf
+  ring-1 h off = rw (← is, off) (refusal r list 1 h)
+
+  module _ (on : b ≡ true) (known : ℕ) (k : known ≡ usedVertices t) where
+    pub ring-9 : Refused r 9 → known ≤ v → outcome r list ≡ ringOf kind v t list
+    unfolding ringOf
+    ring-9 h l = rw (← is, on, ← k, le-ltb _ _ l) (refusal r list 9 h)
+
+    module _ (l : v < known) (m : ℕ) (mark : m ≡ markAt (t .vertexMark) v) where
+      pub ring-10 : Refused r 10 → (m ≡ 0 → ⊥) → outcome r list ≡ ringOf kind v t list
+      unfolding ringOf
+      ring-10 h g = rw (← is, on, ← k, lt-ltb _ _ l, ← mark, ne-eqb _ _ g) (refusal r list 10 h)
+
+      pub ring-go : m ≡ 0 → (used : ℕ) → used ≡ usedCorners t → (c : ℕ) → c ≡ corner t v → (last : List ℕ)
+          → outcome r last ≡ walked kind (t .cornerVertex) (walk (t .cornerOpposite) (t .cornerMark) used c) list
+          → outcome r last ≡ ringOf kind v t list
+      unfolding ringOf
+      ring-go g used u c a last e = rw (← is, on, ← k, lt-ltb _ _ l, ← mark, eq-eqb _ _ g, ← u, ← a) e
+
+-- a shaped table has few corners
+pub shaped-most : (cv co cm vc vm vp : ℕ) (b : Bool) → b ≡ shapedBy cv co cm vc vm vp → b ≡ true → cm ≤ maxCorners
+unfolding shapedBy
+shaped-most cv co cm vc vm vp b is on = go (leb cm maxCorners) _ refl (sym is ∙ on)
+  where
+    go : (x y : Bool) → leb cm maxCorners ≡ x → x && y ≡ true → cm ≤ maxCorners
+    go true y e h = leb-true _ _ e
+    go false y e h = absurd (false≢true h)

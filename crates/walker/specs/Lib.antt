@@ -1,0 +1,3 @@
+-- The moves of a walker.
+pub mod Walker
+pub mod Promises
