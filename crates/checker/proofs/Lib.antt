@@ -2,3 +2,8 @@
 pub mod First
 pub mod Arms
 pub mod Order
+pub mod Words
+pub mod Walks
+pub mod Rules
+pub mod Keeping
+pub mod Judge
