@@ -141,7 +141,7 @@ module _ (t : Table) where
     at-all VertexCorner v l = λ m. (W .cornerLive v m, W .cornerOwn v m)
     at-all CornerFan c l =
         λ m.
-          fan-near (t .cornerOpposite) (table-linked t S W) (t .corners) (λ d n. n .0) _ c (W .cornerLive _ (W .vertexLive c m)) m (W .oneFan c m)
+        fan-near (t .cornerOpposite) (table-linked t S W) (t .corners) (λ d n. n .0) _ c (W .cornerLive _ (W .vertexLive c m)) m (W .oneFan c m)
     at-all Finite v l = W .finite v
 
     well-formed-all : (test : Test) → All t test

@@ -99,17 +99,19 @@ module _ (t : Table) where
     at-differ : At t FaceVertex f → At t FaceVertex (f + 1) → At t FaceVertex (f + 2) → Keeps FaceVertex t f
     unfolding At Keeps
     at-differ p q r =
-        λ l.
-          (apart f (f + 1) (turn0 f m) (p l),
-            apart (f + 1) (f + 2) (turn1 f m) (q (live1 l)),
-            apart (f + 2) f (turn2 f m) (r (live2 (live1 l))))
+        λ l. (
+          apart f (f + 1) (turn0 f m) (p l),
+          apart (f + 1) (f + 2) (turn1 f m) (q (live1 l)),
+          apart (f + 2) f (turn2 f m) (r (live2 (live1 l))),
+        )
 
     differ-at : Keeps FaceVertex t f → At t FaceVertex f × At t FaceVertex (f + 1) × At t FaceVertex (f + 2)
     unfolding At Keeps
-    differ-at k =
-        (λ l. apart-next f (f + 1) (turn0 f m) (k l .0),
-          λ l. apart-next (f + 1) (f + 2) (turn1 f m) (k (live0 (live2 l)) .1),
-          λ l. apart-next (f + 2) f (turn2 f m) (k (live0 l) .2))
+    differ-at k = (
+      λ l. apart-next f (f + 1) (turn0 f m) (k l .0),
+      λ l. apart-next (f + 1) (f + 2) (turn1 f m) (k (live0 (live2 l)) .1),
+      λ l. apart-next (f + 2) f (turn2 f m) (k (live0 l) .2),
+    )
 
   -- ---- with tests passed
 

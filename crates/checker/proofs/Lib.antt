@@ -7,3 +7,4 @@ pub mod Walks
 pub mod Rules
 pub mod Keeping
 pub mod Judge
+pub mod Meshes

@@ -37,7 +37,6 @@ module _ (t : Table) where
   At CornerFan c = Live t c → near (t .cornerOpposite) (corner t (vertex t c)) c (t .corners) c c ≡ true
   At Finite v = LiveVertex t v → finitePoint (point t v) ≡ true
 
-
   mates : (c o : ℕ) → matesTest (t .cornerVertex) (t .cornerOpposite) (t .cornerMark) (t .corners) c o ≡ true
       → Mate (Live t) (opposite t) (vertex t) c o
   unfolding matesTest backTest
@@ -74,14 +73,14 @@ module _ (t : Table) where
   holds-at FaceVertex c e = λ l. eqb-not _ _ (implies-elim (live (t .cornerMark) (t .corners) c) _ e (true-live _ _ _ l))
   holds-at Opposite c e =
       λ l n.
-        mates c (opposite t c)
-        (implies-elim (not (eqb (opposite t c) absent)) _ (implies-elim (live (t .cornerMark) (t .corners) c) _ e (true-live _ _ _ l)) (not-eqb _ _ n))
+      mates c (opposite t c)
+      (implies-elim (not (eqb (opposite t c) absent)) _ (implies-elim (live (t .cornerMark) (t .corners) c) _ e (true-live _ _ _ l)) (not-eqb _ _ n))
   holds-at VertexCorner v e =
       λ l.
-        let a = live (t .cornerMark) (t .corners) (corner t v) in
-        let b = eqb (vertex t (corner t v)) v in
-        let f : a && b ≡ true = implies-elim (live (t .vertexMark) (t .vertices) v) _ e (true-live _ _ _ l) in
-        (live-true _ _ _ (and-left a b f), eqb-true _ _ (and-right a b f))
+      let a = live (t .cornerMark) (t .corners) (corner t v) in
+      let b = eqb (vertex t (corner t v)) v in
+      let f : a && b ≡ true = implies-elim (live (t .vertexMark) (t .vertices) v) _ e (true-live _ _ _ l) in
+      (live-true _ _ _ (and-left a b f), eqb-true _ _ (and-right a b f))
   holds-at CornerFan c e = λ l. implies-elim (live (t .cornerMark) (t .corners) c) _ e (true-live _ _ _ l)
   holds-at Finite v e = λ l. implies-elim (live (t .vertexMark) (t .vertices) v) _ e (true-live _ _ _ l)
 
