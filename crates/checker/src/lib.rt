@@ -46,29 +46,20 @@ pub enum Test {
 fn both(a: bool, b: bool) -> bool
     ensures { λ r. ⌜ r ≡ (a && b) ⌝ }
 {
-    if a {
-        return b;
-    }
-    false
+    if a { b } else { false }
 }
 
 fn either(a: bool, b: bool) -> bool
     ensures { λ r. ⌜ r ≡ (a || b) ⌝ }
 {
-    if a {
-        return true;
-    }
-    b
+    if a { true } else { b }
 }
 
 // Where a is so, b is.
 fn if_so(a: bool, b: bool) -> bool
     ensures { λ r. ⌜ r ≡ implies a b ⌝ }
 {
-    if a {
-        return b;
-    }
-    true
+    if a { b } else { true }
 }
 
 // ---- R1 to R4

@@ -1,145 +1,105 @@
+-- `checker::holds` meets its contract: one arm a test.
 use Rattle.checker.specs.Tests.{holds}
 use borrow.Author.Needs.{needs}
 use Rattle.checker.proofs.holds.Statement.{statement}
 use Rattle.checker.proofs.holds.Tie as tie
-use Rattle.checker.proofs.holds.Reads as reads
-use Rattle.checker.proofs.holds.Lts as lts
-use Rattle.checker.proofs.corner_test.Reads as corner-test-reads
-use Rattle.checker.proofs.counts_test.Reads as counts-test-reads
-use Rattle.checker.proofs.differ_test.Reads as differ-test-reads
-use Rattle.checker.proofs.face_test.Reads as face-test-reads
-use Rattle.checker.proofs.fan_test.Reads as fan-test-reads
-use Rattle.checker.proofs.mark_test.Reads as mark-test-reads
-use Rattle.checker.proofs.opposite_test.Reads as opposite-test-reads
-use Rattle.checker.proofs.point_test.Reads as point-test-reads
-use Rattle.checker.proofs.vertex_test.Reads as vertex-test-reads
 
--- src/lib.rt:239:37
 enum-told : tie.Need-enum-told
 enum-told c = search needs
 
--- src/lib.rt:239:25
 counts-test-requires : tie.Need-counts-test-requires
 counts-test-requires c κs = search needs
 
--- src/lib.rt:240:29
 enum-told-2 : tie.Need-enum-told-2
 enum-told-2 c = search needs
 
--- src/lib.rt:240:29
 mark-test-requires : tie.Need-mark-test-requires
 mark-test-requires c κs = search needs
 
--- src/lib.rt:241:41
 enum-told-3 : tie.Need-enum-told-3
 enum-told-3 c = search needs
 
--- src/lib.rt:241:27
 face-test-requires : tie.Need-face-test-requires
 face-test-requires c κs = search needs
 
--- src/lib.rt:242:29
 enum-told-4 : tie.Need-enum-told-4
 enum-told-4 c = search needs
 
--- src/lib.rt:242:29
 mark-test-requires-2 : tie.Need-mark-test-requires-2
 mark-test-requires-2 c κs = search needs
 
--- src/lib.rt:243:63
 enum-told-5 : tie.Need-enum-told-5
 enum-told-5 c = search needs
 
--- src/lib.rt:243:31
 vertex-test-requires : tie.Need-vertex-test-requires
 vertex-test-requires c κs = search needs
 
--- src/lib.rt:244:53
 enum-told-6 : tie.Need-enum-told-6
 enum-told-6 c = search needs
 
--- src/lib.rt:244:29
 differ-test-requires : tie.Need-differ-test-requires
 differ-test-requires c κs = search needs
 
--- src/lib.rt:245:57
 enum-told-7 : tie.Need-enum-told-7
 enum-told-7 c = search needs
 
--- src/lib.rt:245:27
 opposite-test-requires : tie.Need-opposite-test-requires
 opposite-test-requires c κs = search needs
 
--- src/lib.rt:246:67
 enum-told-8 : tie.Need-enum-told-8
 enum-told-8 c = search needs
 
--- src/lib.rt:246:31
 corner-test-requires : tie.Need-corner-test-requires
 corner-test-requires c κs = search needs
 
--- src/lib.rt:247:57
 enum-told-9 : tie.Need-enum-told-9
 enum-told-9 c = search needs
 
--- src/lib.rt:247:28
 fan-test-requires : tie.Need-fan-test-requires
 fan-test-requires c κs = search needs
 
--- src/lib.rt:248:48
 enum-told-10 : tie.Need-enum-told-10
 enum-told-10 c = search needs
 
--- src/lib.rt:248:25
 point-test-requires : tie.Need-point-test-requires
 point-test-requires c κs = search needs
 
--- src/lib.rt:224:1
 returns : tie.Need-returns
 unfolding holds
 returns c = rw (c .before .enum-told .given .1) (c .counts-test .ensures)
 
--- src/lib.rt:224:1
 returns-2 : tie.Need-returns-2
 unfolding holds
 returns-2 c = rw (c .before .enum-told2 .given .1) (c .mark-test .ensures)
 
--- src/lib.rt:224:1
 returns-3 : tie.Need-returns-3
 unfolding holds
 returns-3 c = rw (c .before .enum-told3 .given .1) (c .face-test .ensures)
 
--- src/lib.rt:224:1
 returns-4 : tie.Need-returns-4
 unfolding holds
 returns-4 c = rw (c .before .enum-told4 .given .1) (c .mark-test2 .ensures)
 
--- src/lib.rt:224:1
 returns-5 : tie.Need-returns-5
 unfolding holds
 returns-5 c = rw (c .before .enum-told5 .given .1) (c .vertex-test .ensures)
 
--- src/lib.rt:224:1
 returns-6 : tie.Need-returns-6
 unfolding holds
 returns-6 c = rw (c .before .enum-told6 .given .1) (c .differ-test .ensures)
 
--- src/lib.rt:224:1
 returns-7 : tie.Need-returns-7
 unfolding holds
 returns-7 c = rw (c .before .enum-told7 .given .1) (c .opposite-test .ensures)
 
--- src/lib.rt:224:1
 returns-8 : tie.Need-returns-8
 unfolding holds
 returns-8 c = rw (c .before .enum-told8 .given .1) (c .corner-test .ensures)
 
--- src/lib.rt:224:1
 returns-9 : tie.Need-returns-9
 unfolding holds
 returns-9 c = rw (c .before .enum-told9 .given .1) (c .fan-test .ensures)
 
--- src/lib.rt:224:1
 returns-10 : tie.Need-returns-10
 unfolding holds
 returns-10 c = rw (c .before .enum-told10 .given .1) (c .point-test .ensures)

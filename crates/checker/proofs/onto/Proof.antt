@@ -1,3 +1,4 @@
+-- `checker::onto` meets its contract: a turn of a corner that isn't absent is below absent, so it fits.
 use native.Mathlib.Omega.{arith}
 use mathlib.Core.Path.{refl}
 use borrow.Author.Tests.{eq-eqb, ne-eqb}
@@ -6,23 +7,16 @@ use Rattle.corner.proofs.Turns.{turn-below}
 use borrow.Author.Needs.{needs}
 use Rattle.checker.proofs.onto.Statement.{statement}
 use Rattle.checker.proofs.onto.Tie as tie
-use Rattle.checker.proofs.onto.Reads as reads
-use Rattle.checker.proofs.onto.Lts as lts
-use Rattle.corner.proofs.Corner.turn_index.Reads as turn-index-reads
 
--- src/lib.rt:165:9
 returns : tie.Need-returns
 returns c = rw (eq-eqb _ _ (c .if1 .taken))
 
--- src/lib.rt:167:12
 turn-index-requires : tie.Need-turn-index-requires
 turn-index-requires c κs = search needs
 
--- src/lib.rt:167:12
 cast-t5 : tie.Need-cast-t5
 cast-t5 c = omega (arith, turn-below (c .before .before .before .args .left) (c .before .before .before .args .o .0) absent refl (omega arith), c .turn-index .ensures)
 
--- src/lib.rt:161:1
 returns-2 : tie.Need-returns-2
 returns-2 c = rw (ne-eqb _ _ (c .before .if1 .left)) (c .turn-index .ensures)
 
