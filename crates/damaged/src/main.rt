@@ -124,39 +124,79 @@ fn copy_numbers(words: &[u32], first: u32, n: u32, to: &mut [f32]) {
     }
 }
 
-// The damage at word i of the copy at k: a part by its first letter, a slot, and what is put there.
-fn damage(
-    words: &[u32],
-    k: u32,
-    i: u32,
-    cv: &mut [u32],
-    co: &mut [u32],
-    cm: &mut [u32],
-    vc: &mut [u32],
-    vm: &mut [u32],
-    vp: &mut [f32],
-)
-    requires { ⌜ i < 10 ⌝ }
-{
-    let part = word(words, k, i);
-    let slot = word(words, k, i + 1) as usize;
-    let value = word(words, k, i + 2);
-    if part == 118 {
-        put(cv, slot, value);
-    } else if part == 111 {
-        put(co, slot, value);
-    } else if part == 109 {
-        put(cm, slot, value);
-    } else if part == 99 {
-        put(vc, slot, value);
-    } else if part == 103 {
-        put(vm, slot, value);
-    } else if part == 110 {
-        put_float(vp, slot, vertex::float_of(value));
-    } else if part == 117 {
-        put(co, slot, 4294967295);
-        put(co, value as usize, 4294967295);
+fn put_if(hit: bool, to: &mut [u32], slot: u32, value: u32) {
+    if hit {
+        put(to, slot as usize, value);
     }
+}
+
+fn put_number_if(hit: bool, to: &mut [f32], slot: u32, value: u32) {
+    if hit {
+        put_float(to, slot as usize, vertex::float_of(value));
+    }
+}
+
+fn cut_if(hit: bool, co: &mut [u32], c: u32, o: u32) {
+    if hit {
+        put(co, c as usize, 4294967295);
+        put(co, o as usize, 4294967295);
+    }
+}
+
+// The damages of the copy at k to the part of that letter.
+fn harm(words: &[u32], k: u32, letter: u32, to: &mut [u32]) {
+    put_if(
+        word(words, k, 1) == letter,
+        to,
+        word(words, k, 2),
+        word(words, k, 3),
+    );
+    put_if(
+        word(words, k, 4) == letter,
+        to,
+        word(words, k, 5),
+        word(words, k, 6),
+    );
+}
+
+fn harm_numbers(words: &[u32], k: u32, to: &mut [f32]) {
+    put_number_if(
+        word(words, k, 1) == 110,
+        to,
+        word(words, k, 2),
+        word(words, k, 3),
+    );
+    put_number_if(
+        word(words, k, 4) == 110,
+        to,
+        word(words, k, 5),
+        word(words, k, 6),
+    );
+}
+
+fn unpair(words: &[u32], k: u32, co: &mut [u32]) {
+    cut_if(
+        word(words, k, 1) == 117,
+        co,
+        word(words, k, 2),
+        word(words, k, 3),
+    );
+    cut_if(
+        word(words, k, 4) == 117,
+        co,
+        word(words, k, 5),
+        word(words, k, 6),
+    );
+}
+
+fn part(words: &[u32], first: u32, n: u32, k: u32, letter: u32, to: &mut [u32]) {
+    copy(words, first, n, to);
+    harm(words, k, letter, to);
+}
+
+fn numbers(words: &[u32], first: u32, k: u32, to: &mut [f32]) {
+    copy_numbers(words, first, 18, to);
+    harm_numbers(words, k, to);
 }
 
 // A count: the mesh's own, or what a damage puts there.
@@ -204,34 +244,13 @@ fn damaged(words: &[u32], k: u32) -> Verdict {
     let mut vc = [0u32; 6];
     let mut vm = [0u32; 6];
     let mut vp = [0.0f32; 18];
-    copy(words, m + 2, 15, &mut cv);
-    copy(words, m + 17, 15, &mut co);
-    copy(words, m + 32, 15, &mut cm);
-    copy(words, m + 47, 6, &mut vc);
-    copy(words, m + 53, 6, &mut vm);
-    copy_numbers(words, m + 59, 18, &mut vp);
-    damage(
-        words,
-        k,
-        1,
-        &mut cv,
-        &mut co,
-        &mut cm,
-        &mut vc,
-        &mut vm,
-        &mut vp,
-    );
-    damage(
-        words,
-        k,
-        4,
-        &mut cv,
-        &mut co,
-        &mut cm,
-        &mut vc,
-        &mut vm,
-        &mut vp,
-    );
+    part(words, m + 2, 15, k, 118, &mut cv);
+    part(words, m + 17, 15, k, 111, &mut co);
+    unpair(words, k, &mut co);
+    part(words, m + 32, 15, k, 109, &mut cm);
+    part(words, m + 47, 6, k, 99, &mut vc);
+    part(words, m + 53, 6, k, 103, &mut vm);
+    numbers(words, m + 59, k, &mut vp);
     checker::check(&cv, &co, &cm, &vc, &vm, &vp, n)
 }
 
