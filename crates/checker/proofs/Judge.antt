@@ -13,7 +13,7 @@ use Rattle.fan.proofs.Tables.{table-linked}
 use Rattle.checker.specs.First.{firstBad}
 use Rattle.checker.specs.Tests.{holds}
 use Rattle.checker.specs.Order.{tests, testAt, ruleOf, span, slotOf, firstOf, clean, passed, disagree, broken, ruled, verdictOf}
-use Rattle.checker.specs.Blame.{Keeps, Slot, AllKeep, Blames, Judged, unshaped, sound, blamed}
+use Rattle.checker.specs.Blame.{AllKeep, Blames, Judged, unshaped, sound, blamed}
 use Rattle.checker.specs.declared.Test.{Test}
 use Rattle.checker.specs.declared.Test.the-variants.{Counts, CornerMark, FaceMark, VertexMark, CornerVertex, FaceVertex, Opposite, VertexCorner, CornerFan, Finite}
 use Rattle.checker.specs.declared.Verdict.{Verdict}

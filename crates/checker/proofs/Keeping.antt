@@ -1,6 +1,6 @@
 -- From tests that pass to slots that keep the rules, and back, with the tests before them passed. Assumes nothing.
 use Prim.Native.Nat.{ℕ, zero, suc, _+_, _-_, _%_, _≤_, _<_}
-use mathlib.Core.Path.{_≡_, refl, sym, ap, subst, _∙_}
+use mathlib.Core.Path.{_≡_, sym, subst, _∙_}
 use mathlib.Core.Logic.{_≢_, _⊎_, inl, inr}
 use mathlib.Core.Bool.{true}
 use native.Mathlib.Omega.{arith}
@@ -10,8 +10,7 @@ use Rattle.table.specs.Slots.{markAt}
 use Rattle.table.specs.Table.{Table, cornerRoom, vertexRoom, vertex, opposite, corner, Live, LiveVertex, Shaped}
 use Rattle.table.specs.Rules.{Fan, Mate}
 use Rattle.fan.proofs.Fan.{Linked, linked, Left, Conn, conn-sym, conn-trans, conn-live, conn-vertex, fan-conn, conn-fan}
-use Rattle.fan.proofs.Tables.{below-absent}
-use Rattle.checker.specs.Tests.{near, holds}
+use Rattle.checker.specs.Tests.{holds}
 use Rattle.checker.specs.Order.{testAt, span, slotOf}
 use Rattle.checker.specs.Blame.{Keeps, Slot}
 use Rattle.checker.specs.declared.Test.{Test}

@@ -1,12 +1,11 @@
 -- Document 01's meshes A, B and T are well-formed, and for each rule a copy of B with that rule broken is not: all by computing the
 -- verdict. Assumes nothing.
-use Prim.Native.Nat.{ℕ}
 use mathlib.Core.Path.{_≡_, refl, ap}
-use mathlib.Core.List.{List, [], _∷_}
+use mathlib.Core.List.{[], _∷_}
 use lib.Ieee.{ofBits, binary32}
 use lib.ListN.{set}
 use Rattle.corner.specs.Corner.{absent, next, previous}
-use Rattle.table.specs.Table.{Table, shapedBy, live, Shaped, withCornerVertex, withCornerOpposite, withCornerMark, withVertexCorner, withVertexMark, withVertexPoint, withCounts}
+use Rattle.table.specs.Table.{Table, shapedBy, live, Shaped, withCornerVertex, withCornerOpposite, withCornerMark, withVertexCorner, withVertexPoint, withCounts}
 use Rattle.table.specs.Rules.{WellFormed}
 use Rattle.table.specs.Slots.{nought}
 use Rattle.table.specs.Meshes.{one, two, three, meshA, meshB, meshT}

@@ -1,27 +1,20 @@
 -- Each test read as its rule, and back: a slot passes its test exactly if it keeps the rule. Assumes nothing.
-use Prim.Native.Nat.{ℕ, zero, suc, _+_, _-_, _%_, _≤_, _<_}
-use mathlib.Core.Path.{_≡_, refl, sym, ap, subst, _∙_}
-use mathlib.Core.Logic.{_≢_, _⊎_, inl, inr}
-use mathlib.Core.Bool.{Bool, true, false, _&&_, not, false≢true}
-use native.Mathlib.Omega.{arith}
+use Prim.Native.Nat.{ℕ, _-_, _%_, _≤_}
+use mathlib.Core.Path.{_≡_}
+use mathlib.Core.Logic.{_≢_}
+use mathlib.Core.Bool.{true, _&&_, not}
 use borrow.Author.Tests.{leb-true, le-leb, eqb-true, eq-eqb}
 use lib.Dec.{leb, eqb}
 use Rattle.corner.specs.Corner.{absent, next, previous}
-use Rattle.corner.proofs.Turns.{Third, first, second, last, third, next-first, next-second, next-last, next-below}
 use Rattle.vertex.specs.Point.{finitePoint}
 use Rattle.table.specs.Slots.{markAt}
-use Rattle.table.specs.Table.{Table, cornerRoom, vertexRoom, vertex, opposite, corner, point, live, Live, LiveVertex, Shaped}
-use Rattle.table.specs.Rules.{Fan, Mate, WellFormed}
+use Rattle.table.specs.Table.{Table, cornerRoom, vertexRoom, vertex, opposite, corner, point, live, Live, LiveVertex}
+use Rattle.table.specs.Rules.{Mate}
 use Rattle.table.proofs.Lives.{live-true, true-live}
-use Rattle.fan.proofs.Fan.{Linked, linked, Left, Conn, conn-sym, conn-trans, conn-live, conn-vertex, fan-conn, conn-fan}
-use Rattle.fan.proofs.Tables.{below-absent}
 use Rattle.checker.specs.Tests.{countsTest, markTest, faceTest, vertexTest, differTest, backTest, matesTest, oppositeTest, cornerTest, near, fanTest, pointTest, holds}
-use Rattle.checker.specs.Order.{testAt, span, slotOf}
-use Rattle.checker.specs.Blame.{Keeps, Slot}
 use Rattle.checker.specs.declared.Test.{Test}
 use Rattle.checker.specs.declared.Test.the-variants.{Counts, CornerMark, FaceMark, VertexMark, CornerVertex, FaceVertex, Opposite, VertexCorner, CornerFan, Finite}
 use Rattle.checker.proofs.Words.{and-intro, and-left, and-right, implies-intro, implies-elim, not-eqb, eqb-not}
-use Rattle.checker.proofs.Walks.{Hit, near-hit, fan-near}
 
 module _ (t : Table) where
   -- What a test says of the index that it is given: a corner and the next one, where the rule speaks of a face; the walks, for a fan.

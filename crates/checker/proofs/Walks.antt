@@ -1,14 +1,14 @@
 -- R5's two walks: they hit only in the fan, and where the vertex's corner lies in the fan they hit. Assumes nothing.
-use Prim.Native.Nat.{ℕ, zero, suc, _+_, _≤_, _<_}
+use Prim.Native.Nat.{ℕ, zero, suc, _≤_, _<_}
 use mathlib.Core.Path.{_≡_, refl, sym, ap, _∙_}
 use mathlib.Core.Logic.{_≢_, _⊎_, inl, inr}
 use mathlib.Core.List.{List}
-use mathlib.Core.Bool.{Bool, true, false, cond, _||_, false≢true}
+use mathlib.Core.Bool.{Bool, true, false, cond, false≢true}
 use native.Mathlib.Omega.{arith}
 use borrow.Author.Tests.{ltb-true, eqb-true, eqb-false, eq-eqb, ne-eqb}
 use lib.ListN.{length, List·getD-eq-default}
 use lib.Dec.{ltb, eqb}
-use Rattle.corner.specs.Corner.{absent, next, previous, turn}
+use Rattle.corner.specs.Corner.{absent, turn}
 use Rattle.corner.proofs.Turns.{next-first, previous-first}
 use Rattle.table.specs.Slots.{oppositeAt}
 use Rattle.table.specs.Rules.{Fan, here, left, right}

@@ -1,5 +1,5 @@
 -- What a verdict means. Document 01, "Well-formed", and answers 0, 1 and 7.
-use Prim.Native.Nat.{ℕ, zero, suc, _+_, _<_, _≤_, _%_}
+use Prim.Native.Nat.{ℕ, _+_, _<_, _≤_, _%_}
 use mathlib.Core.Bool.{true}
 use mathlib.Core.Path.{_≡_}
 use mathlib.Core.Logic.{_≢_}
