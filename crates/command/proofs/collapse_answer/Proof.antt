@@ -4,70 +4,46 @@ use denote.Ref.{now}
 use borrow.Author.Needs.{needs}
 use Rattle.command.proofs.collapse_answer.Statement.{statement}
 use Rattle.command.proofs.collapse_answer.Tie as tie
-use Rattle.command.proofs.collapse_answer.Reads as reads
-use Rattle.command.proofs.collapse_answer.Lts as lts
-use Rattle.command.proofs.first.Reads as first-reads
-use Rattle.command.proofs.same_wings.Reads as same-wings-reads
-use Rattle.command.proofs.targeted.Reads as targeted-reads
-use Rattle.command.proofs.when.Reads as when-reads
-use Rattle.edge_collapse.proofs.is_topologically_unsafe.Reads as is-topologically-unsafe-reads
-use Rattle.edge_collapse.proofs.will_collapse_affect_boundary.Reads as will-collapse-affect-boundary-reads
-use Rattle.table.proofs.at.Reads as at-reads
-use Rattle.vertex.proofs.Point.finite.Reads as finite-reads
 
--- src/lib.rt:160:51
 cast-at : tie.Need-cast-at
 cast-at c = search needs
 
--- src/lib.rt:160:37
 at-requires : tie.Need-at-requires
 at-requires c κs = search needs
 
--- src/lib.rt:160:9
 targeted-requires : tie.Need-targeted-requires
 targeted-requires c κs = search needs
 
--- src/lib.rt:161:9
 finite-requires : tie.Need-finite-requires
 finite-requires c κs = search needs
 
--- src/lib.rt:162:22
 when-requires : tie.Need-when-requires
 when-requires c κs = search needs
 
--- src/lib.rt:162:9
 first-requires : tie.Need-first-requires
 first-requires c κs = search needs
 
--- src/lib.rt:164:9
 returns : tie.Need-returns
 returns c = λ vm vp i. let a = c .before .before .before .before .before .before .before .before .before .before .before .before .args in collapse-early (table (now (a .cv)) (now (a .co)) (now (a .cm)) (now (a .vc)) vm vp i (a .corners)) (a .c .0) (a .p) (c .before .before .before .before .before .at .result) (c .before .before .before .before .targeted .result) (c .before .before .when .result) (c .before .first .result) (c .before .before .before .finite .result) (c .before .before .before .before .before .at .ensures) (c .before .before .before .before .targeted .ensures) (c .before .before .before .finite .ensures) (c .before .before .when .ensures) (c .before .first .ensures) (c .if1 .taken)
 
--- src/lib.rt:166:8
 will-collapse-affect-boundary-requires : tie.Need-will-collapse-affect-boundary-requires
 will-collapse-affect-boundary-requires c κs = search needs
 
--- src/lib.rt:167:9
 returns-2 : tie.Need-returns-2
 returns-2 c = λ vm vp i. let a = c .before .before .before .before .before .before .before .before .before .before .before .before .before .before .args in collapse-border (table (now (a .cv)) (now (a .co)) (now (a .cm)) (now (a .vc)) vm vp i (a .corners)) (a .c .0) (a .p) (c .before .before .before .before .before .before .before .at .result) (c .before .before .before .before .before .before .targeted .result) (c .before .before .before .before .when .result) (c .before .before .before .first .result) (c .before .before .before .before .before .finite .result) (c .before .before .before .before .before .before .before .at .ensures) (c .before .before .before .before .before .before .targeted .ensures) (c .before .before .before .before .before .finite .ensures) (c .before .before .before .before .when .ensures) (c .before .before .before .first .ensures) (c .before .before .if1 .left) (c .before .will-collapse-affect-boundary .result) (c .before .will-collapse-affect-boundary .ensures (now (a .cm)) vm vp i) (c .if2 .taken)
 
--- src/lib.rt:169:9
 same-wings-requires : tie.Need-same-wings-requires
 same-wings-requires c κs = search needs
 
--- src/lib.rt:171:9
 returns-3 : tie.Need-returns-3
 returns-3 c = λ vm vp i. let a = c .before .before .before .before .before .before .before .before .before .before .before .before .before .before .before .before .args in collapse-wings (table (now (a .cv)) (now (a .co)) (now (a .cm)) (now (a .vc)) vm vp i (a .corners)) (a .c .0) (a .p) (c .before .before .before .before .before .before .before .before .before .at .result) (c .before .before .before .before .before .before .before .before .targeted .result) (c .before .before .before .before .before .before .when .result) (c .before .before .before .before .before .first .result) (c .before .before .before .before .before .before .before .finite .result) (c .before .before .before .before .before .before .before .before .before .at .ensures) (c .before .before .before .before .before .before .before .before .targeted .ensures) (c .before .before .before .before .before .before .before .finite .ensures) (c .before .before .before .before .before .before .when .ensures) (c .before .before .before .before .before .first .ensures) (c .before .before .before .before .if1 .left) (c .before .before .before .will-collapse-affect-boundary .result) (c .before .before .before .will-collapse-affect-boundary .ensures (now (a .cm)) vm vp i) (c .before .before .if2 .left) (c .before .same-wings .result) (c .before .same-wings .ensures (now (a .cm)) (now (a .vc)) vm vp i (a .corners)) (c .if3 .taken)
 
--- src/lib.rt:174:9
 is-topologically-unsafe-requires : tie.Need-is-topologically-unsafe-requires
 is-topologically-unsafe-requires c κs = search needs
 
--- src/lib.rt:173:5
 when-requires-2 : tie.Need-when-requires-2
 when-requires-2 c κs = search needs
 
--- src/lib.rt:148:1
 returns-4 : tie.Need-returns-4
 returns-4 c = λ vm vp i. let a = c .before .before .before .before .before .before .before .before .before .before .before .before .before .before .before .before .before .before .args in collapse-last (table (now (a .cv)) (now (a .co)) (now (a .cm)) (now (a .vc)) vm vp i (a .corners)) (a .c .0) (a .p) (c .before .before .before .before .before .before .before .before .before .before .before .at .result) (c .before .before .before .before .before .before .before .before .before .before .targeted .result) (c .before .before .before .before .before .before .before .before .when .result) (c .before .before .before .before .before .before .before .first .result) (c .before .before .before .before .before .before .before .before .before .finite .result) (c .before .before .before .before .before .before .before .before .before .before .before .at .ensures) (c .before .before .before .before .before .before .before .before .before .before .targeted .ensures) (c .before .before .before .before .before .before .before .before .before .finite .ensures) (c .before .before .before .before .before .before .before .before .when .ensures) (c .before .before .before .before .before .before .before .first .ensures) (c .before .before .before .before .before .before .if1 .left) (c .before .before .before .before .before .will-collapse-affect-boundary .result) (c .before .before .before .before .before .will-collapse-affect-boundary .ensures (now (a .cm)) vm vp i) (c .before .before .before .before .if2 .left) (c .before .before .before .same-wings .result) (c .before .before .before .same-wings .ensures (now (a .cm)) (now (a .vc)) vm vp i (a .corners)) (c .before .before .if3 .left) (c .before .is-topologically-unsafe .result) (c .before .is-topologically-unsafe .ensures (now (a .cm)) vm vp i) _ (c .when2 .ensures)
 

@@ -1,14 +1,10 @@
 use borrow.Author.Tests.{eq-eqb, ne-eqb}
 use Rattle.command.proofs.corners_for.Statement.{statement}
 use Rattle.command.proofs.corners_for.Tie as tie
-use Rattle.command.proofs.corners_for.Reads as reads
-use Rattle.command.proofs.corners_for.Lts as lts
 
--- src/lib.rt:108:1
 returns : tie.Need-returns
 returns c = simp (eq-eqb _ _ (c .if1 .taken))
 
--- src/lib.rt:108:1
 returns-2 : tie.Need-returns-2
 returns-2 c = simp (ne-eqb _ _ (c .if1 .left))
 

@@ -4,180 +4,135 @@ use native.Mathlib.Omega.{arith}
 use borrow.Author.Needs.{needs}
 use Rattle.command.proofs.decode.Statement.{statement}
 use Rattle.command.proofs.decode.Tie as tie
-use Rattle.command.proofs.decode.Reads as reads
-use Rattle.command.proofs.decode.Lts as lts
-use Rattle.vertex.proofs.Point.of_bits.Reads as of-bits-reads
 
--- src/lib.rt:30:13
 mul-j : tie.Need-mul-j
 mul-j c = search needs
 
--- src/lib.rt:31:16
 mul-kind : tie.Need-mul-kind
 mul-kind c = search needs
 
--- src/lib.rt:31:16
 shared-slice-read-kind : tie.Need-shared-slice-read-kind
 shared-slice-read-kind c = search needs
 
--- src/lib.rt:32:20
 add-target : tie.Need-add-target
 add-target c = search needs
 
--- src/lib.rt:32:18
 mul-target : tie.Need-mul-target
 mul-target c = search needs
 
--- src/lib.rt:32:18
 shared-slice-read-target : tie.Need-shared-slice-read-target
 shared-slice-read-target c = search needs
 
--- src/lib.rt:34:62
 add-of-bits : tie.Need-add-of-bits
 add-of-bits c = search needs
 
--- src/lib.rt:34:60
 mul-of-bits : tie.Need-mul-of-bits
 mul-of-bits c = search needs
 
--- src/lib.rt:34:60
 shared-slice-read-of-bits : tie.Need-shared-slice-read-of-bits
 shared-slice-read-of-bits c = search needs
 
--- src/lib.rt:34:72
 add-of-bits-2 : tie.Need-add-of-bits-2
 add-of-bits-2 c = search needs
 
--- src/lib.rt:34:70
 mul-of-bits-2 : tie.Need-mul-of-bits-2
 mul-of-bits-2 c = search needs
 
--- src/lib.rt:34:70
 shared-slice-read-of-bits-2 : tie.Need-shared-slice-read-of-bits-2
 shared-slice-read-of-bits-2 c = search needs
 
--- src/lib.rt:34:82
 add-of-bits-3 : tie.Need-add-of-bits-3
 add-of-bits-3 c = search needs
 
--- src/lib.rt:34:80
 mul-of-bits-3 : tie.Need-mul-of-bits-3
 mul-of-bits-3 c = search needs
 
--- src/lib.rt:34:80
 shared-slice-read-of-bits-3 : tie.Need-shared-slice-read-of-bits-3
 shared-slice-read-of-bits-3 c = search needs
 
--- src/lib.rt:34:45
 of-bits-requires : tie.Need-of-bits-requires
 of-bits-requires c κs = search needs
 
--- src/lib.rt:36:63
 add-of-bits-4 : tie.Need-add-of-bits-4
 add-of-bits-4 c = search needs
 
--- src/lib.rt:36:61
 mul-of-bits-4 : tie.Need-mul-of-bits-4
 mul-of-bits-4 c = search needs
 
--- src/lib.rt:36:61
 shared-slice-read-of-bits-4 : tie.Need-shared-slice-read-of-bits-4
 shared-slice-read-of-bits-4 c = search needs
 
--- src/lib.rt:36:73
 add-of-bits-5 : tie.Need-add-of-bits-5
 add-of-bits-5 c = search needs
 
--- src/lib.rt:36:71
 mul-of-bits-5 : tie.Need-mul-of-bits-5
 mul-of-bits-5 c = search needs
 
--- src/lib.rt:36:71
 shared-slice-read-of-bits-5 : tie.Need-shared-slice-read-of-bits-5
 shared-slice-read-of-bits-5 c = search needs
 
--- src/lib.rt:36:83
 add-of-bits-6 : tie.Need-add-of-bits-6
 add-of-bits-6 c = search needs
 
--- src/lib.rt:36:81
 mul-of-bits-6 : tie.Need-mul-of-bits-6
 mul-of-bits-6 c = search needs
 
--- src/lib.rt:36:81
 shared-slice-read-of-bits-6 : tie.Need-shared-slice-read-of-bits-6
 shared-slice-read-of-bits-6 c = search needs
 
--- src/lib.rt:36:46
 of-bits-requires-2 : tie.Need-of-bits-requires-2
 of-bits-requires-2 c κs = search needs
 
--- src/lib.rt:37:61
 add-of-bits-7 : tie.Need-add-of-bits-7
 add-of-bits-7 c = search needs
 
--- src/lib.rt:37:59
 mul-of-bits-7 : tie.Need-mul-of-bits-7
 mul-of-bits-7 c = search needs
 
--- src/lib.rt:37:59
 shared-slice-read-of-bits-7 : tie.Need-shared-slice-read-of-bits-7
 shared-slice-read-of-bits-7 c = search needs
 
--- src/lib.rt:37:71
 add-of-bits-8 : tie.Need-add-of-bits-8
 add-of-bits-8 c = search needs
 
--- src/lib.rt:37:69
 mul-of-bits-8 : tie.Need-mul-of-bits-8
 mul-of-bits-8 c = search needs
 
--- src/lib.rt:37:69
 shared-slice-read-of-bits-8 : tie.Need-shared-slice-read-of-bits-8
 shared-slice-read-of-bits-8 c = search needs
 
--- src/lib.rt:37:81
 add-of-bits-9 : tie.Need-add-of-bits-9
 add-of-bits-9 c = search needs
 
--- src/lib.rt:37:79
 mul-of-bits-9 : tie.Need-mul-of-bits-9
 mul-of-bits-9 c = search needs
 
--- src/lib.rt:37:79
 shared-slice-read-of-bits-9 : tie.Need-shared-slice-read-of-bits-9
 shared-slice-read-of-bits-9 c = search needs
 
--- src/lib.rt:37:44
 of-bits-requires-3 : tie.Need-of-bits-requires-3
 of-bits-requires-3 c κs = search needs
 
--- src/lib.rt:26:1
 returns : tie.Need-returns
 unfolding commandAt
 returns c = collapses _ _ _ _ (c .before .before .before .before .match .keys1) (c .of-bits .ensures)
 
--- src/lib.rt:26:1
 returns-2 : tie.Need-returns-2
 unfolding commandAt
 returns-2 c = flips _ _ _ (c .match .keys2)
 
--- src/lib.rt:26:1
 returns-3 : tie.Need-returns-3
 unfolding commandAt
 returns-3 c = splits-edge _ _ _ _ (c .before .before .before .before .match .keys3) (c .of-bits2 .ensures)
 
--- src/lib.rt:26:1
 returns-4 : tie.Need-returns-4
 unfolding commandAt
 returns-4 c = splits-face _ _ _ _ (c .before .before .before .before .match .keys4) (c .of-bits3 .ensures)
 
--- src/lib.rt:26:1
 returns-5 : tie.Need-returns-5
 unfolding commandAt
 returns-5 c = let k = c .match .keys5 in unknown _ _ _ (λ e. omega arith) (λ e. omega arith) (λ e. omega arith) (λ e. omega arith)
 
--- src/lib.rt:26:1
 returns-6 : tie.Need-returns-6
 unfolding commandAt
 returns-6 c = let k = c .match .rest in unknown _ _ _ (k .0 .0 .0 .0 .1) (k .0 .0 .0 .1) (k .0 .0 .1) (k .0 .1)

@@ -1,0 +1,126 @@
+-- A command by its answer: refused, the table is as it was; done, it is the effect. Assumes nothing.
+use Prim.Native.Nat.{ℕ, _+_, _≤_, _<_}
+use mathlib.Core.Path.{_≡_, refl, sym, ap, subst, _∙_}
+use mathlib.Core.List.{List}
+use native.Mathlib.Decide.{decLt}
+use lib.ListN.{length, getD, List·getD-eq-default}
+use mathlib.Core.Logic.{_≢_}
+use native.Mathlib.Omega.{arith}
+use borrow.Author.Tests.{eq-eqb, ne-eqb}
+use mathlib.Core.Bool.{Bool, false, cond}
+use lib.Dec.{eqb}
+use Rattle.corner.specs.Corner.{absent, firstCorner}
+use Rattle.corner.specs.declared.Corner.{Corner}
+use Rattle.corner.specs.declared.Face.{Face}
+use Rattle.vertex.specs.declared.Point.{Point}
+use Rattle.table.proofs.Lists.{any-default}
+use Rattle.edit.specs.Flip.{flipEdge}
+use Rattle.edit.specs.SplitFace.{splitFace}
+use Rattle.edit.specs.SplitEdge.{splitEdge}
+use Rattle.edit.specs.Collapse.{collapseEdge}
+use Rattle.table.specs.Table.{Table, opposite, Shaped}
+use Rattle.table.specs.Rules.{WellFormed}
+use Rattle.edge_collapse.specs.EdgeCollapse.{affectsBoundary}
+use Rattle.edge_collapse.proofs.Paper.{inner}
+use Rattle.command.specs.declared.Edit.{Edit}
+use Rattle.command.specs.declared.Edit.the-variants.{Collapse, Flip, SplitEdge, SplitFace, Unknown}
+use Rattle.command.specs.Answers.{first, when, cornerTarget, faceTarget, noRoom, noOpposite, collapseAnswer, flipAnswer, splitEdgeAnswer, splitFaceAnswer, answer}
+use Rattle.command.specs.Step.{effect, step}
+use Rattle.command.proofs.Chain.{first-left, first-right, when-false}
+use Rattle.command.proofs.Passed.{corner-live, face-live, room-passed, opposite-there}
+use Rattle.step.specs.Stepped.{Good, Stepped}
+
+module _ (t : Table) (e : Edit) where
+  pub refused : (a : ℕ) → a ≡ answer t e → (a ≡ 0 → ⊥) → Stepped t e a t
+  unfolding step
+  refused a h n = record { answered = h; table = rw (← h, ne-eqb a 0 n) }
+
+  pub done : (u : Table) (a : ℕ) → a ≡ answer t e → a ≡ 0 → u ≡ effect t e → Stepped t e 0 u
+  unfolding step
+  done u a h z k = record { answered = sym z ∙ h; table = rw (← h, eq-eqb a 0 z) k }
+
+pub unknown : (t : Table) → Stepped t Unknown 14 t
+unfolding answer step
+unknown t = record { answered = refl; table = refl }
+
+-- ---- what an answer 0 gives the edit that it lets through
+
+module _ (t : Table) (c : ℕ) where
+  pub flip-ready : flipAnswer t c ≡ 0 → (c < t .corners) × (opposite t c ≢ absent)
+  unfolding flipAnswer
+  flip-ready e = (corner-live t c (first-left _ _ e) .0, opposite-there t c (first-left _ _ (first-right _ _ e)))
+
+  pub collapse-ready : Good t → (p : Point) → collapseAnswer t c p ≡ 0 → (c < t .corners) × (opposite t c ≢ absent)
+  unfolding collapseAnswer
+  collapse-ready G p e =
+      let l = corner-live t c (first-left _ _ e) in
+      (l .0, inner t (G .shaped) (G .wellFormed) c l (when-false (affectsBoundary t c) 11 (omega arith) (first-left _ _ (first-right _ _ (first-right _ _ e)))))
+
+  pub edge-ready : Good t → (p : Point) → splitEdgeAnswer t c p ≡ 0 → (t .corners + 6 < absent) × (t .vertices + 1 < absent) × (c < absent)
+  unfolding splitEdgeAnswer
+  edge-ready G p e =
+      let l = corner-live t c (first-left _ _ e) in
+      let r = room-passed t (cond (eqb (opposite t c) absent) 3 6) (first-right _ _ (first-right _ _ e)) in
+      let a = G .shaped .cornerMost in
+      let b = G .shaped .vertexMost in
+      let w = G .wellFormed .cornersFit in
+      (omega arith, omega (arith, r .0), omega (arith, l .0))
+
+  pub face-ready : Good t → (p : Point) → splitFaceAnswer t c p ≡ 0 → (t .corners + 6 < absent) × (t .vertices + 1 < absent) × (firstCorner c < absent)
+  unfolding splitFaceAnswer
+  face-ready G p e =
+      let l = face-live t c (first-left _ _ e) in
+      let r = room-passed t 6 (first-right _ _ (first-right _ _ e)) in
+      let a = G .shaped .cornerMost in
+      let b = G .shaped .vertexMost in
+      let w = G .wellFormed .cornersFit in
+      (omega arith, omega (arith, r .0), omega (arith, l .0))
+
+-- an element that fits u32 and isn't absent is below it
+pub present : (l : List ℕ) (i : ℕ) → getD l i 0 < 4294967296 → getD l i absent ≢ absent → getD l i absent < absent
+present l i h n = go (decLt i (length l))
+  where
+    go : Dec (i < length l) → getD l i absent < absent
+    go (yes q) = let e : getD l i absent ≡ getD l i 0 = any-default l i absent 0 q in omega arith
+    go (no q) = absurd (n (List·getD-eq-default l absent (omega arith)))
+
+-- ---- the four kinds
+
+module _ (t : Table) (c : Corner) where
+  pub flip-answered : (a : ℕ) → a ≡ flipAnswer t (c .0) → a ≡ answer t (Flip c)
+  unfolding answer
+  flip-answered a e = e
+
+  pub flip-done : (u : Table) → u ≡ flipEdge t (c .0) → u ≡ effect t (Flip c)
+  unfolding effect
+  flip-done u e = e
+
+  module _ (p : Point) where
+    pub collapse-answered : (a : ℕ) → a ≡ collapseAnswer t (c .0) p → a ≡ answer t (Collapse c p)
+    unfolding answer
+    collapse-answered a e = e
+
+    pub collapse-done : (u : Table) → u ≡ collapseEdge t (c .0) p → u ≡ effect t (Collapse c p)
+    unfolding effect
+    collapse-done u e = e
+
+    pub edge-answered : (a : ℕ) → a ≡ splitEdgeAnswer t (c .0) p → a ≡ answer t (SplitEdge c p)
+    unfolding answer
+    edge-answered a e = e
+
+    pub edge-done : (u : Table) → u ≡ splitEdge t (c .0) p → u ≡ effect t (SplitEdge c p)
+    unfolding effect
+    edge-done u e = e
+
+module _ (t : Table) (f : Face) (p : Point) where
+  pub face-answered : (a : ℕ) → a ≡ splitFaceAnswer t (f .0) p → a ≡ answer t (SplitFace f p)
+  unfolding answer
+  face-answered a e = e
+
+  pub face-done : (u : Table) → u ≡ splitFace t (f .0) p → u ≡ effect t (SplitFace f p)
+  unfolding effect
+  face-done u e = e
+
+-- a command by the kind that it was found to be
+pub same-command : (t : Table) (e e′ : Edit) (a : ℕ) (u : Table) → e ≡ e′ → Stepped t e′ a u → Stepped t e a u
+same-command t e e′ a u q s = subst (λ (x : Edit). Stepped t x a u) (sym q) s

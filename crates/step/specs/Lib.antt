@@ -1,0 +1,2 @@
+-- What one command leaves and answers.
+pub mod Stepped

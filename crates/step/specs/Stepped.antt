@@ -1,0 +1,16 @@
+-- What a command leaves and answers, from a well-formed table. "Each command's outcome is the definition applied to the table before it."
+use Prim.Native.Nat.{ℕ}
+use mathlib.Core.Path.{_≡_}
+use Rattle.table.specs.Table.{Table, Shaped}
+use Rattle.table.specs.Rules.{WellFormed}
+use Rattle.command.specs.declared.Edit.{Edit}
+use Rattle.command.specs.Answers.{answer}
+use Rattle.command.specs.Step.{step}
+
+pub record Good (t : Table) : Type 0 where
+  pub shaped : Shaped t
+  pub wellFormed : WellFormed t
+
+pub record Stepped (t : Table) (e : Edit) (a : ℕ) (u : Table) : Type 0 where
+  pub answered : a ≡ answer t e
+  pub table : u ≡ step t e
