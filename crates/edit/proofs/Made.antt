@@ -97,10 +97,12 @@ unfolding splitInnerEdge
 inner-made cv co cm vc vm vp u n c at r h1 h2 h3 h4 h5 h6 = rw (h1, h2, h3, h4, h5, h6, r)
 
 -- split_edge: which of the two it is
-pub split-boundary : (t : Table) (c : ℕ) (at : Point) {o : ℕ} → o ≡ opposite t c → o ≡ absent → splitBoundaryEdge t c at ≡ splitEdge t c at
+pub split-boundary : (t : Table) (c : ℕ) (at : Point) {o : ℕ} {t′ : Table} → o ≡ opposite t c → o ≡ absent → t′ ≡ splitBoundaryEdge t c at
+    → t′ ≡ splitEdge t c at
 unfolding splitEdge
-split-boundary t c at e h = rw (← e, eq-eqb _ _ h)
+split-boundary t c at e h k = rw (← e, eq-eqb _ _ h) k
 
-pub split-inner : (t : Table) (c : ℕ) (at : Point) {o : ℕ} → o ≡ opposite t c → o ≢ absent → splitInnerEdge t c at ≡ splitEdge t c at
+pub split-inner : (t : Table) (c : ℕ) (at : Point) {o : ℕ} {t′ : Table} → o ≡ opposite t c → o ≢ absent → t′ ≡ splitInnerEdge t c at
+    → t′ ≡ splitEdge t c at
 unfolding splitEdge
-split-inner t c at e h = rw (← e, ne-eqb _ _ h)
+split-inner t c at e h k = rw (← e, ne-eqb _ _ h) k

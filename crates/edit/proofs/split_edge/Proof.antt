@@ -1,6 +1,5 @@
 use Rattle.edit.proofs.Made.{split-boundary, split-inner}
 use Rattle.table.specs.Table.{table}
-use mathlib.Core.Path.{_∙_}
 use denote.Ref.{now}
 use borrow.Author.Needs.{needs}
 use Rattle.edit.proofs.split_edge.Statement.{statement}
@@ -35,12 +34,12 @@ same-length-6 c = search needs
 
 returns : tie.Need-returns
 returns c = let a = c .before .before .before .before .before .before .before .before .before .before .before .before .before .before .before .before .before .before .before .before .before .before .before .before .before .before .before .before .before .args in
-    c .before .before .before .before .before .before .before .before .before .before .before .before .split-boundary-edge .ensures
-    ∙ split-boundary (table (now (a .cv)) (now (a .co)) (now (a .cm)) (now (a .vc)) (now (a .vm)) (now (a .vp)) (a .counts .vertices) (a .counts .corners))
+    split-boundary (table (now (a .cv)) (now (a .co)) (now (a .cm)) (now (a .vc)) (now (a .vm)) (now (a .vp)) (a .counts .vertices) (a .counts .corners))
     (a .edge .0)
     (a .at)
     (c .before .before .before .before .before .before .before .before .before .before .before .before .before .before .before .before .before .before .before .before .before .opposite-of .ensures)
     (c .before .before .before .before .before .before .before .before .before .before .before .before .before .before .before .before .before .before .before .if1 .taken)
+    (c .before .before .before .before .before .before .before .before .before .before .before .before .split-boundary-edge .ensures)
 
 same-length-7 : tie.Need-same-length-7
 same-length-7 c = search needs
@@ -62,12 +61,12 @@ same-length-12 c = search needs
 
 returns-2 : tie.Need-returns-2
 returns-2 c = let a = c .before .before .before .before .before .before .before .before .before .before .before .before .before .before .before .before .before .before .before .before .before .before .before .before .before .before .before .before .before .args in
-    c .before .before .before .before .before .before .before .before .before .before .before .before .split-inner-edge .ensures
-    ∙ split-inner (table (now (a .cv)) (now (a .co)) (now (a .cm)) (now (a .vc)) (now (a .vm)) (now (a .vp)) (a .counts .vertices) (a .counts .corners))
+    split-inner (table (now (a .cv)) (now (a .co)) (now (a .cm)) (now (a .vc)) (now (a .vm)) (now (a .vp)) (a .counts .vertices) (a .counts .corners))
     (a .edge .0)
     (a .at)
     (c .before .before .before .before .before .before .before .before .before .before .before .before .before .before .before .before .before .before .before .before .before .opposite-of .ensures)
     (c .before .before .before .before .before .before .before .before .before .before .before .before .before .before .before .before .before .before .before .if1 .left)
+    (c .before .before .before .before .before .before .before .before .before .before .before .before .split-inner-edge .ensures)
 
 pub split-edge-spec : {M : Type 1} → statement M
 split-edge-spec =
