@@ -1,0 +1,3 @@
+-- Laws of a run.
+pub mod Loop
+pub mod Arms

@@ -1,0 +1,2 @@
+-- A run of a script.
+pub mod Run
