@@ -11,9 +11,10 @@ use lib.Ieee.{Float}
 use lib.ListN.{length, getD, drop, replicate, length-replicate}
 use lib.Seq.{sets, sets-eq}
 use Rattle.corner.specs.Corner.{absent}
-use Rattle.table.specs.Slots.{nought, blanked}
+use Rattle.table.specs.Slots.{nought}
 use Rattle.table.specs.Table.{table, shapedBy, Shaped}
 use Rattle.table.proofs.Shape.{shaped-true}
+use Rattle.table.specs.declared.Counts.{Counts}
 use Rattle.fan.proofs.Fan.{Linked}
 use Rattle.build.specs.Build.{Kept, Step, refuse, go, faces, ringOf, Shared, vertices, Outcome, refused, start, laid, allFinite, isolated, done, spread, finish, build}
 use Rattle.build.proofs.Grow.{paired-linked}
@@ -24,27 +25,14 @@ use Rattle.build.proofs.Settle.{Whole}
 use Rattle.builder_faces.specs.Steps.{kept, stepped}
 use Rattle.builder_fans.specs.Chains.{shared, Ended, Threads, threads, threaded, marked, settled}
 use Rattle.builder_fans.proofs.Marks.{fast}
-use Rattle.builder.specs.declared.Built.{Built}
-use Rattle.builder.specs.Calls.{outcome, Fresh, Begun}
+use Rattle.builder.specs.Calls.{outcome, Cleared, Fresh, Begun}
 
--- what table::blank leaves
-abbrev Blanks : (cv co cm vc vm : List ℕ) (vp : List Float) (cv′ co′ cm′ vc′ vm′ : List ℕ) (vp′ : List Float) → Type 0
-Blanks cv co cm vc vm vp cv′ co′ cm′ vc′ vm′ vp′ =
-    (cv′ ≡ blanked 0 cv) × (co′ ≡ blanked absent co) × (cm′ ≡ blanked 0 cm) × (vc′ ≡ blanked absent vc) × (vm′ ≡ blanked 0 vm)
-    × (vp′ ≡ blanked nought vp)
-
--- a refusal's answer
-pub refusal : (r : Built) (a : ℕ) (cv co cm vc vm : List ℕ) (vp : List Float) (o : Outcome)
-    → r ≡ record { answer = a; skipped = 0; counts = record { vertices = 0; corners = 0 } } → outcome a 0 cv co cm vc vm vp 0 0 ≡ o
-    → outcome (r .answer) (r .skipped) cv co cm vc vm vp (r .counts .vertices) (r .counts .corners) ≡ o
-refusal r a cv co cm vc vm vp o e q = rw e q
-
--- a blank table is the refusal's
-pub made-blank : (rc rv a : ℕ) (cv co cm vc vm cv′ co′ cm′ vc′ vm′ : List ℕ) (vp vp′ : List Float)
-    → Blanks cv co cm vc vm vp cv′ co′ cm′ vc′ vm′ vp′ → length cv ≡ rc → length co ≡ rc → length cm ≡ rc → length vc ≡ rv → length vm ≡ rv
-    → length vp ≡ 3 * rv → outcome a 0 cv′ co′ cm′ vc′ vm′ vp′ 0 0 ≡ refused rc rv a
-made-blank rc rv a cv co cm vc vm cv′ co′ cm′ vc′ vm′ vp vp′ B p q r s t u =
-    rw (B .0, B .1, B .2, B .3, B .4, B .5, p, q, r, s, t, u)
+-- a cleared table is the refusal's
+pub made-blank : (rc rv a : ℕ) (cv co cm vc vm cv′ co′ cm′ vc′ vm′ : List ℕ) (vp vp′ : List Float) (n : Counts)
+    → Cleared cv co cm vc vm vp cv′ co′ cm′ vc′ vm′ vp′ n → length cv ≡ rc → length co ≡ rc → length cm ≡ rc → length vc ≡ rv → length vm ≡ rv
+    → length vp ≡ 3 * rv → outcome a 0 cv′ co′ cm′ vc′ vm′ vp′ (n .vertices) (n .corners) ≡ refused rc rv a
+made-blank rc rv a cv co cm vc vm cv′ co′ cm′ vc′ vm′ vp vp′ n B p q r s t u =
+    rw (B .b0, B .b1, B .b2, B .b3, B .b4, B .b5, B .noVertices, B .noCorners, p, q, r, s, t, u)
 
 pub begun-long : (cv co cm vc vm : List ℕ) (vp : List Float) (n count room skipped : ℕ) → Begun cv co cm vc vm vp n count room skipped
     → length vm ≡ room
@@ -186,30 +174,30 @@ module _ (cv co cm vc vm : List ℕ) (vp ps : List Float) (fs : List ℕ) (nv nc
     S = shaped-true (table cv co cm vc vm vp nv nc) (sym is ∙ y)
 
     module _ (z : length ps % 3 ≡ 0) (cv′ co′ cm′ vc′ vm′ : List ℕ) (vp′ : List Float)
-        (B : Blanks cv co cm vc vm vp cv′ co′ cm′ vc′ vm′ vp′) where
-      none : (a : ℕ) → outcome a 0 cv′ co′ cm′ vc′ vm′ vp′ 0 0 ≡ refused (length cm) (length vm) a
+        (n : Counts) (B : Cleared cv co cm vc vm vp cv′ co′ cm′ vc′ vm′ vp′ n) where
+      none : (a : ℕ) → outcome a 0 cv′ co′ cm′ vc′ vm′ vp′ (n .vertices) (n .corners) ≡ refused (length cm) (length vm) a
       none a =
-          made-blank (length cm) (length vm) a cv co cm vc vm cv′ co′ cm′ vc′ vm′ vp vp′ B (S .cornerVertexRoom) (S .cornerOppositeRoom) refl
+          made-blank (length cm) (length vm) a cv co cm vc vm cv′ co′ cm′ vc′ vm′ vp vp′ n B (S .cornerVertexRoom) (S .cornerOppositeRoom) refl
           (S .vertexCornerRoom) refl (S .vertexPointRoom)
 
-      pub build-over : length vm < length ps / 3 → outcome 5 0 cv′ co′ cm′ vc′ vm′ vp′ 0 0 ≡ build (table cv co cm vc vm vp nv nc) ps fs
+      pub build-over : length vm < length ps / 3 → outcome 5 0 cv′ co′ cm′ vc′ vm′ vp′ (n .vertices) (n .corners) ≡ build (table cv co cm vc vm vp nv nc) ps fs
       unfolding build
       build-over h = none 5 ∙ rw (← is, y, eq-eqb (length ps % 3) 0 z, lt-ltb (length vm) (length ps / 3) h)
 
       module _ (h : length ps / 3 ≤ length vm) (t : Bool) (fin : t ≡ allFinite ps) where
-        pub build-infinite : t ≡ false → outcome 4 0 cv′ co′ cm′ vc′ vm′ vp′ 0 0 ≡ build (table cv co cm vc vm vp nv nc) ps fs
+        pub build-infinite : t ≡ false → outcome 4 0 cv′ co′ cm′ vc′ vm′ vp′ (n .vertices) (n .corners) ≡ build (table cv co cm vc vm vp nv nc) ps fs
         unfolding build
         build-infinite e = none 4 ∙ rw (← is, y, eq-eqb (length ps % 3) 0 z, le-ltb (length vm) (length ps / 3) h, ← fin, e)
 
         pub build-fresh : Fresh cv′ co′ cm′ vc′ vm′ vp′ ps (length cm) (length vm) (length ps / 3)
         build-fresh =
             record {
-              f0 = B .0 ∙ ap (λ (n : ℕ). replicate n 0) (S .cornerVertexRoom);
-              f1 = B .1 ∙ ap (λ (n : ℕ). replicate n absent) (S .cornerOppositeRoom);
-              f2 = B .2;
-              f3 = B .3 ∙ ap (λ (n : ℕ). replicate n absent) (S .vertexCornerRoom);
-              f4 = B .4;
-              f5 = B .5 ∙ ap (λ (n : ℕ). replicate n nought) (S .vertexPointRoom);
+              f0 = B .b0 ∙ ap (λ (k : ℕ). replicate k 0) (S .cornerVertexRoom);
+              f1 = B .b1 ∙ ap (λ (k : ℕ). replicate k absent) (S .cornerOppositeRoom);
+              f2 = B .b2;
+              f3 = B .b3 ∙ ap (λ (k : ℕ). replicate k absent) (S .vertexCornerRoom);
+              f4 = B .b4;
+              f5 = B .b5 ∙ ap (λ (k : ℕ). replicate k nought) (S .vertexPointRoom);
               corners = S .cornerMost;
               rooms = S .vertexMost;
               fits = h;

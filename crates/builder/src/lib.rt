@@ -6,7 +6,7 @@ ghost use lib.ListN.{length};
 ghost use Rattle.table.specs.Table.{table};
 ghost use Rattle.build.specs.Build.{go, build as buildOf, finish as finishOf, faces as facesOf, start, laid};
 ghost use Rattle.builder_faces.specs.Steps.{kept};
-ghost use Rattle.builder.specs.Calls.{Begun, Fresh, outcome};
+ghost use Rattle.builder.specs.Calls.{Begun, Cleared, Fresh, outcome};
 use table::Counts;
 
 // The answer, how many faces were skipped, and how much of the table is used.
@@ -16,16 +16,22 @@ pub struct Built {
     pub counts: Counts,
 }
 
-fn refused(answer: u32) -> Built
-    ensures { λ r. ⌜ r ≡ record { answer = answer; skipped = 0; counts = record { vertices = 0; corners = 0 } } ⌝ }
+// Every slot blank; the counts of such a table.
+fn clear(
+    cv: &mut [u32],
+    co: &mut [u32],
+    cm: &mut [u32],
+    vc: &mut [u32],
+    vm: &mut [u32],
+    vp: &mut [f32],
+) -> Counts
+    ensures { λ r. ⌜ Cleared (now (cv .entry)) (now (co .entry)) (now (cm .entry)) (now (vc .entry)) (now (vm .entry)) (now (vp .entry))
+        (now (cv .exit)) (now (co .exit)) (now (cm .exit)) (now (vc .exit)) (now (vm .exit)) (now (vp .exit)) r ⌝ }
 {
-    Built {
-        answer: answer,
-        skipped: 0,
-        counts: Counts {
-            vertices: 0,
-            corners: 0,
-        },
+    table::blank(cv, co, cm, vc, vm, vp);
+    Counts {
+        vertices: 0,
+        corners: 0,
     }
 }
 
@@ -52,8 +58,12 @@ fn finish(
     builder_fans::thread_left(cv, cm, vm, n);
     let u = builder_fans::settle(co, cm, vm, cv, vc, vp, n, room, count);
     if u > room {
-        table::blank(cv, co, cm, vc, vm, vp);
-        return refused(5);
+        let none = clear(cv, co, cm, vc, vm, vp);
+        return Built {
+            answer: 5,
+            skipped: 0,
+            counts: none,
+        };
     }
     table::fill(cm, 0);
     table::fill(vm, 0);
@@ -89,8 +99,12 @@ fn add_all(
     builder_faces::add_vertices(vp, points);
     let r = builder_faces::add_faces(cv, co, vc, count, corners, faces);
     if r.answer != 0 {
-        table::blank(cv, co, cm, vc, vm, vp);
-        return refused(r.answer);
+        let none = clear(cv, co, cm, vc, vm, vp);
+        return Built {
+            answer: r.answer,
+            skipped: 0,
+            counts: none,
+        };
     }
     finish(cv, co, cm, vc, vm, vp, r.corners, count, room, r.skipped)
 }
@@ -127,12 +141,20 @@ pub fn build(
     let corners = cm.len();
     let room = vm.len();
     let count = points.len() / 3;
-    table::blank(cv, co, cm, vc, vm, vp);
+    let blank = clear(cv, co, cm, vc, vm, vp);
     if count > room {
-        return refused(5);
+        return Built {
+            answer: 5,
+            skipped: 0,
+            counts: blank,
+        };
     }
     if !builder_faces::all_finite(points) {
-        return refused(4);
+        return Built {
+            answer: 4,
+            skipped: 0,
+            counts: blank,
+        };
     }
     add_all(
         cv,

@@ -1,7 +1,7 @@
 use mathlib.Core.Path.{_∙_}
 use borrow.Author.Needs.{needs}
 use denote.Ref.{now}
-use Rattle.builder.proofs.Steps.{refusal, made-blank, lay-fits, laid-is, begun, made-refused, made-done, cv-long, co-long, cm-long, vc-long, vm-long, vp-long}
+use Rattle.builder.proofs.Steps.{made-blank, lay-fits, laid-is, begun, made-refused, made-done, cv-long, co-long, cm-long, vc-long, vm-long, vp-long}
 use Rattle.builder.proofs.add_all.Statement.{statement}
 use Rattle.builder.proofs.add_all.Tie as tie
 
@@ -11,11 +11,8 @@ add-vertices-requires c κs = lay-fits _ _ _ _ _ _ _ _ _ _ (c .before .before .b
 add-faces-requires : tie.Need-add-faces-requires
 add-faces-requires c κs = search needs
 
-blank-requires : tie.Need-blank-requires
-blank-requires c κs = search needs
-
-refused-requires : tie.Need-refused-requires
-refused-requires c κs = search needs
+clear-requires : tie.Need-clear-requires
+clear-requires c κs = search needs
 
 same-length : tie.Need-same-length
 same-length c = search needs
@@ -33,10 +30,10 @@ same-length-5 : tie.Need-same-length-5
 same-length-5 c = search needs
 
 same-length-6 : tie.Need-same-length-6
-same-length-6 c = c .before .before .before .before .before .before .before .before .before .before .before .before .before .blank .kept .1 .1 .1 .1 .1 .0 ∙ c .before .before .before .before .before .before .before .before .before .before .before .before .before .before .before .before .before .before .before .before .before .before .before .before .before .before .before .before .before .before .before .before .before .before .add-vertices .kept .0
+same-length-6 c = search needs
 
 returns : tie.Need-returns
-returns c = let a = c .before .before .before .before .before .before .before .before .before .before .before .before .before .before .before .before .before .before .before .before .before .before .before .before .before .before .before .before .before .before .before .before .before .before .before .before .before .before .before .before .before .before .before .before .args in let g = c .before .before .before .before .before .before .before .before .before .before .before .before .before .before .before .before .before .before .before .before .before .before .before .before .before .before .before .before .before .before .before .before .before .before .before .before .before .before .before .before .before .before .before .before .pre in let y = c .before .before .before .before .before .before .before .before .before .before .before .before .before .before .before .before .before .before .before .before .before .before .before .before .before .before .before .before .before .before .before .before .before .before .add-vertices in let f = c .before .before .before .before .before .before .before .before .before .before .before .before .before .before .before .before .before .before .before .before .before .before .before .before .before .before .before .before .add-faces in let z = c .before .before .before .before .before .before .before .before .before .before .before .before .before .blank in refusal _ (f .result .answer) _ _ _ _ _ _ _ (c .refused .ensures) (made-blank (a .corners) (a .room) (f .result .answer) (f .last .0) (f .last .1 .0) (now (a .cm)) (f .last .1 .1 .0) (now (a .vm)) _ _ _ _ _ (y .last .0) _ (z .ensures) (f .kept .0 ∙ cv-long _ _ _ _ _ _ _ _ _ _ g) (f .kept .1 .0 ∙ co-long _ _ _ _ _ _ _ _ _ _ g) (cm-long _ _ _ _ _ _ _ _ _ _ g) (f .kept .1 .1 .0 ∙ vc-long _ _ _ _ _ _ _ _ _ _ g) (vm-long _ _ _ _ _ _ _ _ _ _ g) (y .kept .0 ∙ vp-long _ _ _ _ _ _ _ _ _ _ g) ∙ made-refused _ _ _ _ _ _ _ _ _ _ g _ _ _ _ _ _ _ (f .ensures) (c .before .before .before .before .before .before .before .before .before .before .before .before .before .before .before .before .before .before .before .before .if1 .taken))
+returns c = let g = c .before .before .before .before .before .before .before .before .before .before .before .before .before .before .before .before .before .before .before .before .before .before .before .before .before .before .before .before .before .before .before .before .before .before .before .before .before .before .before .before .before .before .before .pre in let y = c .before .before .before .before .before .before .before .before .before .before .before .before .before .before .before .before .before .before .before .before .before .before .before .before .before .before .before .before .before .before .before .before .before .add-vertices in let f = c .before .before .before .before .before .before .before .before .before .before .before .before .before .before .before .before .before .before .before .before .before .before .before .before .before .before .before .add-faces in made-blank _ _ (f .result .answer) _ _ _ _ _ _ _ _ _ _ _ _ _ (c .before .before .before .before .before .before .before .before .before .before .before .before .clear .ensures) (f .kept .0 ∙ cv-long _ _ _ _ _ _ _ _ _ _ g) (f .kept .1 .0 ∙ co-long _ _ _ _ _ _ _ _ _ _ g) (cm-long _ _ _ _ _ _ _ _ _ _ g) (f .kept .1 .1 .0 ∙ vc-long _ _ _ _ _ _ _ _ _ _ g) (vm-long _ _ _ _ _ _ _ _ _ _ g) (y .kept .0 ∙ vp-long _ _ _ _ _ _ _ _ _ _ g) ∙ made-refused _ _ _ _ _ _ _ _ _ _ g _ _ _ _ _ _ _ (f .ensures) (c .before .before .before .before .before .before .before .before .before .before .before .before .before .before .before .before .before .before .before .if1 .taken)
 
 finish-requires : tie.Need-finish-requires
 finish-requires c κs = let g = c .before .before .before .before .before .before .before .before .before .before .before .before .before .before .before .before .before .before .before .before .before .before .before .before .before .before .before .before .before .before .pre in let y = c .before .before .before .before .before .before .before .before .before .before .before .before .before .before .before .before .before .before .before .before .add-vertices in let f = c .before .before .before .before .before .before .before .before .before .before .before .before .before .before .add-faces in begun _ _ _ _ _ _ _ _ _ _ g _ _ _ _ _ _ _ (f .ensures) (c .before .before .before .before .before .before .if1 .left) (y .last .0) (y .kept .0)
@@ -68,8 +65,7 @@ add-all-spec =
     (tie.spec
     add-vertices-requires
     add-faces-requires
-    blank-requires
-    refused-requires
+    clear-requires
     same-length
     same-length-2
     same-length-3

@@ -2,10 +2,9 @@ use mathlib.Core.List.{List}
 use mathlib.Core.Path.{refl, ap, _∙_}
 use Prim.Native.Nat.{ℕ}
 use borrow.Author.Needs.{needs}
-use denote.Ref.{now}
-use lib.ListN.{length, replicate}
+use lib.ListN.{replicate}
 use Rattle.build.specs.Build.{isolated}
-use Rattle.builder.proofs.Steps.{refusal, made-blank, finish-full, finish-fits, begun-long}
+use Rattle.builder.proofs.Steps.{made-blank, finish-full, finish-fits, begun-long}
 use Rattle.builder.proofs.finish.Statement.{statement}
 use Rattle.builder.proofs.finish.Tie as tie
 
@@ -18,11 +17,8 @@ thread-left-requires c κs = search needs
 settle-requires : tie.Need-settle-requires
 settle-requires c κs = search needs
 
-blank-requires : tie.Need-blank-requires
-blank-requires c κs = search needs
-
-refused-requires : tie.Need-refused-requires
-refused-requires c κs = search needs
+clear-requires : tie.Need-clear-requires
+clear-requires c κs = search needs
 
 same-length : tie.Need-same-length
 same-length c = search needs
@@ -31,19 +27,19 @@ same-length-2 : tie.Need-same-length-2
 same-length-2 c = search needs
 
 same-length-3 : tie.Need-same-length-3
-same-length-3 c = c .before .before .before .before .before .before .before .before .before .before .before .before .before .blank .kept .1 .1 .0 ∙ c .before .before .before .before .before .before .before .before .before .before .before .before .before .before .before .before .before .before .before .before .before .before .before .before .before .before .before .before .before .before .before .before .before .before .before .before .before .before .thread-left .kept .1 .0 ∙ c .before .before .before .before .before .before .before .before .before .before .before .before .before .before .before .before .before .before .before .before .before .before .before .before .before .before .before .before .before .before .before .before .before .before .before .before .before .before .before .before .before .before .before .before .mark-fans .kept .1 .1 .0
+same-length-3 c = c .before .before .before .before .before .before .before .before .before .before .before .before .clear .kept .1 .1 .0 ∙ c .before .before .before .before .before .before .before .before .before .before .before .before .before .before .before .before .before .before .before .before .before .before .before .before .before .before .before .before .before .before .before .before .before .before .before .before .before .thread-left .kept .1 .0 ∙ c .before .before .before .before .before .before .before .before .before .before .before .before .before .before .before .before .before .before .before .before .before .before .before .before .before .before .before .before .before .before .before .before .before .before .before .before .before .before .before .before .before .before .before .mark-fans .kept .1 .1 .0
 
 same-length-4 : tie.Need-same-length-4
 same-length-4 c = search needs
 
 same-length-5 : tie.Need-same-length-5
-same-length-5 c = c .before .before .before .before .before .before .before .before .before .before .before .before .before .blank .kept .1 .1 .1 .1 .0 ∙ c .before .before .before .before .before .before .before .before .before .before .before .before .before .before .before .before .before .before .before .before .before .before .before .before .before .before .before .before .before .before .before .before .before .before .before .before .before .before .thread-left .kept .1 .1 .0
+same-length-5 c = search needs
 
 same-length-6 : tie.Need-same-length-6
 same-length-6 c = search needs
 
 returns : tie.Need-returns
-returns c = λ points lay. let a = c .before .before .before .before .before .before .before .before .before .before .before .before .before .before .before .before .before .before .before .before .before .before .before .before .before .before .before .before .before .before .before .before .before .before .before .before .before .before .before .before .before .before .before .before .before .before .before .before .before .before .before .before .before .before .args in let g = c .before .before .before .before .before .before .before .before .before .before .before .before .before .before .before .before .before .before .before .before .before .before .before .before .before .before .before .before .before .before .before .before .before .before .before .before .before .before .before .before .before .before .before .before .before .before .before .before .before .before .before .before .before .before .pre in let m = c .before .before .before .before .before .before .before .before .before .before .before .before .before .before .before .before .before .before .before .before .before .before .before .before .before .before .before .before .before .before .before .before .before .before .before .before .before .before .before .before .before .before .before .before .mark-fans in let t = c .before .before .before .before .before .before .before .before .before .before .before .before .before .before .before .before .before .before .before .before .before .before .before .before .before .before .before .before .before .before .before .before .before .before .before .before .before .before .thread-left in let s = c .before .before .before .before .before .before .before .before .before .before .before .before .before .before .before .before .before .before .before .before .before .before .before .before .before .before .before .settle in let z = c .before .before .before .before .before .before .before .before .before .before .before .before .before .blank in refusal _ 5 _ _ _ _ _ _ _ (c .refused .ensures) (made-blank (length (now (a .cm))) (a .room) 5 (s .last .1 .1 .1 .0) (now (a .co)) (t .last .1 .0) (s .last .1 .1 .1 .1 .0) (t .last .1 .1 .0) _ _ _ _ _ (s .last .1 .1 .1 .1 .1 .0) _ (z .ensures) (s .kept .1 .1 .1 .0 ∙ g .ready .cv-length) (g .ready .co-length) (t .kept .1 .0 ∙ m .kept .1 .1 .0) (s .kept .1 .1 .1 .1 .0 ∙ g .ready .vc-length) (t .kept .1 .1 .0 ∙ begun-long _ _ _ _ _ _ _ _ _ _ g) (s .kept .1 .1 .1 .1 .1 .0 ∙ g .points) ∙ finish-full _ _ _ _ _ _ _ _ _ _ _ _ _ _ _ _ _ _ points g refl lay (m .ensures) (t .ensures) (s .ensures) (c .before .before .before .before .before .before .before .before .before .before .before .before .before .before .before .before .before .before .before .before .if1 .taken))
+returns c = λ points lay. let g = c .before .before .before .before .before .before .before .before .before .before .before .before .before .before .before .before .before .before .before .before .before .before .before .before .before .before .before .before .before .before .before .before .before .before .before .before .before .before .before .before .before .before .before .before .before .before .before .before .before .before .before .before .before .pre in let m = c .before .before .before .before .before .before .before .before .before .before .before .before .before .before .before .before .before .before .before .before .before .before .before .before .before .before .before .before .before .before .before .before .before .before .before .before .before .before .before .before .before .before .before .mark-fans in let t = c .before .before .before .before .before .before .before .before .before .before .before .before .before .before .before .before .before .before .before .before .before .before .before .before .before .before .before .before .before .before .before .before .before .before .before .before .before .thread-left in let s = c .before .before .before .before .before .before .before .before .before .before .before .before .before .before .before .before .before .before .before .before .before .before .before .before .before .before .settle in made-blank _ _ 5 _ _ _ _ _ _ _ _ _ _ _ _ _ (c .before .before .before .before .before .before .before .before .before .before .before .before .clear .ensures) (s .kept .1 .1 .1 .0 ∙ g .ready .cv-length) (g .ready .co-length) (t .kept .1 .0 ∙ m .kept .1 .1 .0) (s .kept .1 .1 .1 .1 .0 ∙ g .ready .vc-length) (t .kept .1 .1 .0 ∙ begun-long _ _ _ _ _ _ _ _ _ _ g) (s .kept .1 .1 .1 .1 .1 .0 ∙ g .points) ∙ finish-full _ _ _ _ _ _ _ _ _ _ _ _ _ _ _ _ _ _ points g refl lay (m .ensures) (t .ensures) (s .ensures) (c .before .before .before .before .before .before .before .before .before .before .before .before .before .before .before .before .before .before .before .if1 .taken)
 
 fill-requires : tie.Need-fill-requires
 fill-requires c κs = search needs
@@ -82,8 +78,7 @@ finish-spec =
     mark-fans-requires
     thread-left-requires
     settle-requires
-    blank-requires
-    refused-requires
+    clear-requires
     same-length
     same-length-2
     same-length-3
