@@ -1,0 +1,52 @@
+-- The marked small meshes of document 01, built: every slot, by computation. Assumes nothing.
+use mathlib.Core.Path.{_≡_, refl}
+use mathlib.Core.List.{List, [], _∷_}
+use lib.Ieee.{Float, ofBits}
+use Rattle.corner.specs.Corner.{absent, next, previous}
+use Rattle.table.specs.Slots.{nought}
+use Rattle.table.specs.Table.{Table, table, shapedBy}
+use Rattle.table.specs.Meshes.{one, two, three, meshA, meshB, meshT}
+use Rattle.build.specs.Build.{Outcome, blank, laid, edgeAt, findEdge, grow, face, faces, side, ringOf, give, left, corners, vertices, isolated, finish, build}
+
+-- vertex v at (v, 0, 0)
+abbrev threePoints : List Float
+threePoints = nought ∷ nought ∷ nought ∷ one ∷ nought ∷ nought ∷ two ∷ nought ∷ nought ∷ []
+
+abbrev fourPoints : List Float
+fourPoints = nought ∷ nought ∷ nought ∷ one ∷ nought ∷ nought ∷ two ∷ nought ∷ nought ∷ three ∷ nought ∷ nought ∷ []
+
+-- nothing skipped
+abbrev made : Table → Outcome
+made t = record { answer = 0; skipped = 0; result = t }
+
+-- "A: points 0 to 2, face 0 1 2."
+pub built-A : build (blank 3 3) threePoints (0 ∷ 1 ∷ 2 ∷ []) ≡ made meshA
+unfolding build finish isolated laid ringOf vertices corners left give faces face grow findEdge edgeAt next previous side shapedBy nought one two ofBits
+built-A = refl
+
+-- "B: faces 0 1 2, 0 2 3."
+pub built-B : build (blank 6 4) fourPoints (0 ∷ 1 ∷ 2 ∷ 0 ∷ 2 ∷ 3 ∷ []) ≡ made meshB
+unfolding build finish isolated laid ringOf vertices corners left give faces face grow findEdge edgeAt next previous side shapedBy nought one two three ofBits
+built-B = refl
+
+-- "T: faces 0 1 2, 0 2 3, 0 3 1, 1 3 2."
+pub built-T : build (blank 12 4) fourPoints (0 ∷ 1 ∷ 2 ∷ 0 ∷ 2 ∷ 3 ∷ 0 ∷ 3 ∷ 1 ∷ 1 ∷ 3 ∷ 2 ∷ []) ≡ made meshT
+unfolding build finish isolated laid ringOf vertices corners left give faces face grow findEdge edgeAt next previous side shapedBy nought one two three ofBits
+built-T = refl
+
+-- "Faces 0 1 2, 0 3 4: corners 5 1 2 0 3 4, six vertices." The later fan keeps vertex 0; vertex 5 stands at its point.
+pub built-bow : build (blank 6 6)
+    (one ∷ two ∷ three ∷ one ∷ nought ∷ nought ∷ two ∷ nought ∷ nought ∷ three ∷ nought ∷ nought ∷ one ∷ one ∷ nought ∷ [])
+    (0 ∷ 1 ∷ 2 ∷ 0 ∷ 3 ∷ 4 ∷ [])
+    ≡ made
+    (table
+    (5 ∷ 1 ∷ 2 ∷ 0 ∷ 3 ∷ 4 ∷ [])
+    (absent ∷ absent ∷ absent ∷ absent ∷ absent ∷ absent ∷ [])
+    (0 ∷ 0 ∷ 0 ∷ 0 ∷ 0 ∷ 0 ∷ [])
+    (3 ∷ 1 ∷ 2 ∷ 4 ∷ 5 ∷ 0 ∷ [])
+    (0 ∷ 0 ∷ 0 ∷ 0 ∷ 0 ∷ 0 ∷ [])
+    (one ∷ two ∷ three ∷ one ∷ nought ∷ nought ∷ two ∷ nought ∷ nought ∷ three ∷ nought ∷ nought ∷ one ∷ one ∷ nought ∷ one ∷ two ∷ three ∷ [])
+    6
+    6)
+unfolding build finish isolated laid ringOf vertices corners left give faces face grow findEdge edgeAt next previous side shapedBy nought one two three ofBits
+built-bow = refl

@@ -1,0 +1,2 @@
+-- The build of a table from points and faces.
+pub mod Build

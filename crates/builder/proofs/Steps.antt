@@ -1,0 +1,211 @@
+-- The steps of a call, put together to the build. Assumes nothing.
+use mathlib.Core.Path.{_≡_, refl, ap, sym, _∙_, subst}
+use mathlib.Core.Bool.{Bool, true, false, cond, _&&_}
+use mathlib.Core.List.{List, _++_}
+use Prim.Native.Nat.{ℕ, zero, suc, _+_, _-_, _*_, _≤_, _<_, _%_, _/_}
+use native.Mathlib.Omega.{arith}
+use native.Mathlib.Nat.{sub-zero}
+use borrow.Author.Tests.{eq-eqb, ne-eqb, lt-ltb, le-ltb}
+use lib.Dec.{eqb, ltb}
+use lib.Ieee.{Float}
+use lib.ListN.{length, getD, drop, replicate, length-replicate}
+use lib.Seq.{sets, sets-eq}
+use Rattle.corner.specs.Corner.{absent}
+use Rattle.table.specs.Slots.{nought}
+use Rattle.table.specs.Table.{table, shapedBy, Shaped}
+use Rattle.table.proofs.Shape.{shaped-true}
+use Rattle.table.specs.declared.Counts.{Counts}
+use Rattle.fan.proofs.Fan.{Linked}
+use Rattle.build.specs.Build.{Kept, Step, refuse, go, faces, ringOf, Shared, vertices, Outcome, refused, start, laid, allFinite, isolated, done, spread, finish, build}
+use Rattle.build.proofs.Grow.{paired-linked}
+use Rattle.build.proofs.Ready.{Ready}
+use Rattle.build.proofs.Folded.{Fine, faces-ready, start-ready}
+use Rattle.build.proofs.Spun.{ring-exact}
+use Rattle.build.proofs.Settle.{Whole}
+use Rattle.builder_faces.specs.Steps.{kept, stepped}
+use Rattle.builder_fans.specs.Chains.{shared, Ended, Threads, threads, threaded, marked, settled}
+use Rattle.builder_fans.proofs.Marks.{fast}
+use Rattle.builder.specs.Calls.{outcome, Cleared, Fresh, Begun}
+
+-- a cleared table is the refusal's
+pub made-blank : (rc rv a : ℕ) (cv co cm vc vm cv′ co′ cm′ vc′ vm′ : List ℕ) (vp vp′ : List Float) (n : Counts)
+    → Cleared cv co cm vc vm vp cv′ co′ cm′ vc′ vm′ vp′ n → length cv ≡ rc → length co ≡ rc → length cm ≡ rc → length vc ≡ rv → length vm ≡ rv
+    → length vp ≡ 3 * rv → outcome a 0 cv′ co′ cm′ vc′ vm′ vp′ (n .vertices) (n .corners) ≡ refused rc rv a
+made-blank rc rv a cv co cm vc vm cv′ co′ cm′ vc′ vm′ vp vp′ n B p q r s t u =
+    rw (B .b0, B .b1, B .b2, B .b3, B .b4, B .b5, B .noVertices, B .noCorners, p, q, r, s, t, u)
+
+pub begun-long : (cv co cm vc vm : List ℕ) (vp : List Float) (n count room skipped : ℕ) → Begun cv co cm vc vm vp n count room skipped
+    → length vm ≡ room
+begun-long cv co cm vc vm vp n count room skipped G = ap length (G .flags) ∙ length-replicate {0} {A = ℕ} room 0
+
+module _ (rc rv nv n sk r : ℕ) (cv co vc cm cm₁ cm₂ vm vm₂ cv′ vc′ : List ℕ) (vp vp′ : List Float) (points : List Float)
+    (G : Begun cv co cm vc vm vp n nv rv sk) (long : length cm ≡ rc) (lay : vp ≡ laid rv points)
+    (m : cm₁ ≡ marked (ringOf co n) vc nv 0 cm) (f : threads cm₂ vm₂ ≡ threaded cv n (threads cm₁ vm))
+    (E : Ended rv (settled (ringOf co n) cm₂ vm₂ n nv 0 (shared cv vc vp nv)) cv′ vc′ vp′ r) where
+  R : Ready nv rc rv (kept cv co vc n sk)
+  R = subst (λ (x : ℕ). Ready nv x rv (kept cv co vc n sk)) long (G .ready)
+
+  L : Linked (λ d. d < n) (λ d. getD co d absent) (λ d. getD cv d 0)
+  L = paired-linked (R .paired)
+
+  W : Whole n rc rv (λ d. getD co d absent) (shared cv vc vp nv)
+  W = record { cv-length = R .cv-length; vc-length = R .vc-length; linked = L; below = R .below; home = R .home; has = R .has }
+
+  blank-marks : cm ≡ replicate rc 0
+  blank-marks = G .marks ∙ ap (λ (x : ℕ). replicate x 0) long
+
+  chains : threads cm₂ vm₂ ≡ threaded cv n (threads (marked (ringOf co n) vc nv 0 (replicate rc 0)) (replicate rv 0))
+  chains = f ∙ ap (λ (x : List ℕ). threaded cv n (threads x vm)) (m ∙ ap (marked (ringOf co n) vc nv 0) blank-marks)
+      ∙ ap (λ (x : List ℕ). threaded cv n (threads (marked (ringOf co n) vc nv 0 (replicate rc 0)) x)) (G .flags)
+
+  same : settled (ringOf co n) cm₂ vm₂ n nv 0 (shared cv vc vp nv) ≡ spread rv nv points (kept cv co vc n sk)
+  same =
+      ap (λ (t : Threads). settled (ringOf co n) (t .link) (t .head) n nv 0 (shared cv vc vp nv)) chains
+      ∙ fast n rc rv nv (λ d. getD co d absent) (ringOf co n) (ring-exact co n (λ d. getD cv d 0) L) (shared cv vc vp nv) W (R .fits) refl (R .vertices)
+      ∙ ap (λ (p : List Float). vertices (ringOf co n) n nv 0 (shared cv vc p nv)) lay
+
+  pub finish-full : rv < r → refused rc rv 5 ≡ finish rc rv nv points (go (kept cv co vc n sk))
+  unfolding finish
+  finish-full h =
+      let z : rv < spread rv nv points (kept cv co vc n sk) .nv = subst (λ (s : Shared). rv < s .nv) same (E .full h) in
+      rw (lt-ltb rv (spread rv nv points (kept cv co vc n sk) .nv) z)
+
+  pub finish-fits : r ≤ rv → (cm₃ vm₃ : List ℕ) → cm₃ ≡ replicate rc 0 → vm₃ ≡ isolated vc′ r 0 (replicate rv 0)
+      → outcome 0 sk cv′ co cm₃ vc′ vm₃ vp′ r n ≡ finish rc rv nv points (go (kept cv co vc n sk))
+  unfolding finish
+  finish-fits h cm₃ vm₃ p q = by (spread rv nv points (kept cv co vc n sk)) (E .fits h ∙ same)
+    where
+      by : (s : Shared) → shared cv′ vc′ vp′ r ≡ s
+          → outcome 0 sk cv′ co cm₃ vc′ vm₃ vp′ r n ≡ cond (ltb rv (s .nv)) (refused rc rv 5) (done rc rv (kept cv co vc n sk) s)
+      by s e =
+          subst
+          (λ (t : Shared). outcome 0 sk cv′ co cm₃ vc′ vm₃ vp′ r n ≡ cond (ltb rv (t .nv)) (refused rc rv 5) (done rc rv (kept cv co vc n sk) t))
+          e (rw (le-ltb rv r h, p, q))
+
+-- ---- points and faces
+
+drop-replicate : (m n : ℕ) (x : Float) → drop m (replicate n x) ≡ replicate (n - m) x
+drop-replicate zero n x = rw sub-zero
+drop-replicate (suc m) zero x = let z : 0 - suc m ≡ 0 = omega arith in rw z
+drop-replicate (suc m) (suc n) x = let z : suc n - suc m ≡ n - m = omega arith in rw z (drop-replicate m n x)
+
+module _ (cv co cm vc vm : List ℕ) (vp ps : List Float) (rc rv nv : ℕ) (B : Fresh cv co cm vc vm vp ps rc rv nv) where
+  pub vp-long : length vp ≡ 3 * rv
+  vp-long = ap length (B .f5) ∙ length-replicate (3 * rv) nought
+
+  pub lay-fits : length ps ≤ length vp
+  lay-fits = omega (arith, vp-long, B .thirds, B .fits)
+
+  pub laid-is : (vp′ : List Float) → vp′ ≡ sets vp 0 ps → vp′ ≡ laid rv ps
+  unfolding laid
+  laid-is vp′ e = e ∙ sets-eq ps vp 0 (omega (arith, lay-fits)) ∙ ap (λ (t : List Float). ps ++ t) tail
+    where
+      tail : drop (0 + length ps) vp ≡ replicate (3 * rv - length ps) nought
+      tail = let z : 0 + length ps ≡ length ps = omega arith in rw (z, B .f5) (drop-replicate (length ps) (3 * rv) nought)
+
+  begin : kept cv co vc 0 0 ≡ start rc rv
+  begin = rw (B .f0, B .f1, B .f3)
+
+  -- the lengths where a refused table is made blank
+  pub cv-long : length cv ≡ rc
+  cv-long = ap length (B .f0) ∙ length-replicate {0} {A = ℕ} rc 0
+
+  pub co-long : length co ≡ rc
+  co-long = ap length (B .f1) ∙ length-replicate {0} {A = ℕ} rc absent
+
+  pub vc-long : length vc ≡ rv
+  vc-long = ap length (B .f3) ∙ length-replicate {0} {A = ℕ} rv absent
+
+  pub cm-long : length cm ≡ rc
+  cm-long = ap length (B .f2) ∙ length-replicate {0} {A = ℕ} rc 0
+
+  pub vm-long : length vm ≡ rv
+  vm-long = ap length (B .f4) ∙ length-replicate {0} {A = ℕ} rv 0
+
+  module _ (fs cv′ co′ vc′ : List ℕ) (a n sk : ℕ) (e : stepped a (kept cv′ co′ vc′ n sk) ≡ faces nv rc (kept cv co vc 0 0) fs) where
+    e′ : stepped a (kept cv′ co′ vc′ n sk) ≡ faces nv rc (start rc rv) fs
+    e′ = e ∙ ap (λ (k : Kept). faces nv rc k fs) begin
+
+    fine : Fine nv rc rv (stepped a (kept cv′ co′ vc′ n sk))
+    fine = subst (λ (t : Step). Fine nv rc rv t) (sym e′) (faces-ready nv rc rv fs (start rc rv) (start-ready nv rc rv (B .fits) (B .corners)))
+
+    ready : (x : ℕ) → Fine nv rc rv (stepped x (kept cv′ co′ vc′ n sk)) → x ≡ 0 → Ready nv rc rv (kept cv′ co′ vc′ n sk)
+    ready zero h z = h
+    ready (suc x) h z = absurd (omega arith)
+
+    pub begun : a ≡ 0 → (vp′ : List Float) → length vp′ ≡ length vp → Begun cv′ co′ cm vc′ vm vp′ n nv rv sk
+    begun z vp′ l = record {
+      ready = subst (λ (x : ℕ). Ready nv x rv (kept cv′ co′ vc′ n sk)) (sym cm-long) (ready a fine z);
+      marks = B .f2 ∙ ap (λ (x : ℕ). replicate x 0) (sym cm-long);
+      flags = B .f4;
+      points = l ∙ vp-long;
+      small = B .rooms;
+    }
+
+    pub made-refused : (a ≡ 0 → ⊥) → refused rc rv a ≡ finish rc rv nv ps (faces nv rc (start rc rv) fs)
+    unfolding finish
+    made-refused z = by a z e′
+      where
+        by : (x : ℕ) → (x ≡ 0 → ⊥) → stepped x (kept cv′ co′ vc′ n sk) ≡ faces nv rc (start rc rv) fs → refused rc rv x ≡ finish rc rv nv ps (faces nv rc (start rc rv) fs)
+        by zero n q = absurd (n refl)
+        by (suc x) n q = ap (finish rc rv nv ps) q
+
+    pub made-done : a ≡ 0 → (o : Outcome) → o ≡ finish (length cm) rv nv ps (go (kept cv′ co′ vc′ n sk)) → o ≡ finish rc rv nv ps (faces nv rc (start rc rv) fs)
+    made-done z o q = q ∙ ap (λ (x : ℕ). finish x rv nv ps (go (kept cv′ co′ vc′ n sk))) cm-long ∙ ap (finish rc rv nv ps) (by a z e′)
+      where
+        by : (x : ℕ) → x ≡ 0 → stepped x (kept cv′ co′ vc′ n sk) ≡ faces nv rc (start rc rv) fs → go (kept cv′ co′ vc′ n sk) ≡ faces nv rc (start rc rv) fs
+        by zero n q = q
+        by (suc x) n q = absurd (omega arith)
+
+-- ---- the checks of the call
+
+module _ (cv co cm vc vm : List ℕ) (vp ps : List Float) (fs : List ℕ) (nv nc : ℕ) (b : Bool)
+    (is : b ≡ shapedBy (length cv) (length co) (length cm) (length vc) (length vm) (length vp)) where
+  pub build-unshaped : b ≡ false → outcome 1 0 cv co cm vc vm vp nv nc ≡ build (table cv co cm vc vm vp nv nc) ps fs
+  unfolding build
+  build-unshaped e = rw (← is, e)
+
+  module _ (y : b ≡ true) where
+    pub build-thirds : (length ps % 3 ≡ 0 → ⊥) → outcome 1 0 cv co cm vc vm vp nv nc ≡ build (table cv co cm vc vm vp nv nc) ps fs
+    unfolding build
+    build-thirds h = rw (← is, y, ne-eqb (length ps % 3) 0 h)
+
+    pub S : Shaped (table cv co cm vc vm vp nv nc)
+    S = shaped-true (table cv co cm vc vm vp nv nc) (sym is ∙ y)
+
+    module _ (z : length ps % 3 ≡ 0) (cv′ co′ cm′ vc′ vm′ : List ℕ) (vp′ : List Float)
+        (n : Counts) (B : Cleared cv co cm vc vm vp cv′ co′ cm′ vc′ vm′ vp′ n) where
+      none : (a : ℕ) → outcome a 0 cv′ co′ cm′ vc′ vm′ vp′ (n .vertices) (n .corners) ≡ refused (length cm) (length vm) a
+      none a =
+          made-blank (length cm) (length vm) a cv co cm vc vm cv′ co′ cm′ vc′ vm′ vp vp′ n B (S .cornerVertexRoom) (S .cornerOppositeRoom) refl
+          (S .vertexCornerRoom) refl (S .vertexPointRoom)
+
+      pub build-over : length vm < length ps / 3 → outcome 5 0 cv′ co′ cm′ vc′ vm′ vp′ (n .vertices) (n .corners) ≡ build (table cv co cm vc vm vp nv nc) ps fs
+      unfolding build
+      build-over h = none 5 ∙ rw (← is, y, eq-eqb (length ps % 3) 0 z, lt-ltb (length vm) (length ps / 3) h)
+
+      module _ (h : length ps / 3 ≤ length vm) (t : Bool) (fin : t ≡ allFinite ps) where
+        pub build-infinite : t ≡ false → outcome 4 0 cv′ co′ cm′ vc′ vm′ vp′ (n .vertices) (n .corners) ≡ build (table cv co cm vc vm vp nv nc) ps fs
+        unfolding build
+        build-infinite e = none 4 ∙ rw (← is, y, eq-eqb (length ps % 3) 0 z, le-ltb (length vm) (length ps / 3) h, ← fin, e)
+
+        pub build-fresh : Fresh cv′ co′ cm′ vc′ vm′ vp′ ps (length cm) (length vm) (length ps / 3)
+        build-fresh =
+            record {
+              f0 = B .b0 ∙ ap (λ (k : ℕ). replicate k 0) (S .cornerVertexRoom);
+              f1 = B .b1 ∙ ap (λ (k : ℕ). replicate k absent) (S .cornerOppositeRoom);
+              f2 = B .b2;
+              f3 = B .b3 ∙ ap (λ (k : ℕ). replicate k absent) (S .vertexCornerRoom);
+              f4 = B .b4;
+              f5 = B .b5 ∙ ap (λ (k : ℕ). replicate k nought) (S .vertexPointRoom);
+              corners = S .cornerMost;
+              rooms = S .vertexMost;
+              fits = h;
+              thirds = omega (arith, z);
+            }
+
+        pub build-made : t ≡ true → (o : Outcome)
+            → o ≡ finish (length cm) (length vm) (length ps / 3) ps (faces (length ps / 3) (length cm) (start (length cm) (length vm)) fs)
+            → o ≡ build (table cv co cm vc vm vp nv nc) ps fs
+        unfolding build
+        build-made e o q = q ∙ rw (← is, y, eq-eqb (length ps % 3) 0 z, le-ltb (length vm) (length ps / 3) h, ← fin, e)

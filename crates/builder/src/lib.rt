@@ -1,0 +1,172 @@
+// builder.rs: a table from points and faces, in lent memory.
+ghost use mathlib.Core.Path.{_≡_};
+ghost use mathlib.Core.List.{List};
+ghost use lib.Ieee.{Float};
+ghost use lib.ListN.{length};
+ghost use Rattle.table.specs.Table.{table};
+ghost use Rattle.build.specs.Build.{go, build as buildOf, finish as finishOf, faces as facesOf, start, laid};
+ghost use Rattle.builder_faces.specs.Steps.{kept};
+ghost use Rattle.builder.specs.Calls.{Begun, Cleared, Fresh, outcome};
+use table::Counts;
+
+// The answer, how many faces were skipped, and how much of the table is used.
+pub struct Built {
+    pub answer: u32,
+    pub skipped: usize,
+    pub counts: Counts,
+}
+
+// Every slot blank; the counts of such a table.
+fn clear(
+    cv: &mut [u32],
+    co: &mut [u32],
+    cm: &mut [u32],
+    vc: &mut [u32],
+    vm: &mut [u32],
+    vp: &mut [f32],
+) -> Counts
+    ensures { λ r. ⌜ Cleared (now (cv .entry)) (now (co .entry)) (now (cm .entry)) (now (vc .entry)) (now (vm .entry)) (now (vp .entry))
+        (now (cv .exit)) (now (co .exit)) (now (cm .exit)) (now (vc .exit)) (now (vm .exit)) (now (vp .exit)) r ⌝ }
+{
+    table::blank(cv, co, cm, vc, vm, vp);
+    Counts {
+        vertices: 0,
+        corners: 0,
+    }
+}
+
+// After the faces: duplicates, or the blank table where they don't fit; then deleted vertices. The marks hold the corners left until
+// the duplicates are done.
+fn finish(
+    cv: &mut [u32],
+    co: &mut [u32],
+    cm: &mut [u32],
+    vc: &mut [u32],
+    vm: &mut [u32],
+    vp: &mut [f32],
+    n: u32,
+    count: u32,
+    room: u32,
+    skipped: usize,
+) -> Built
+    requires { ⌜ Begun (now cv) (now co) (now cm) (now vc) (now vm) (now vp) n count room skipped ⌝ }
+    ensures { λ r. ⌜ ((points : List Float) → now (vp .entry) ≡ laid room points
+        → outcome (r .answer) (r .skipped) (now (cv .exit)) (now (co .exit)) (now (cm .exit)) (now (vc .exit)) (now (vm .exit)) (now (vp .exit)) (r .counts .vertices) (r .counts .corners)
+        ≡ finishOf (length (now (cm .entry))) room count points (go (kept (now (cv .entry)) (now (co .entry)) (now (vc .entry)) n skipped))) ⌝ }
+{
+    builder_fans::mark_fans(co, vc, cm, n, count);
+    builder_fans::thread_left(cv, cm, vm, n);
+    let u = builder_fans::settle(co, cm, vm, cv, vc, vp, n, room, count);
+    if u > room {
+        let none = clear(cv, co, cm, vc, vm, vp);
+        return Built {
+            answer: 5,
+            skipped: 0,
+            counts: none,
+        };
+    }
+    table::fill(cm, 0);
+    table::fill(vm, 0);
+    builder_fans::isolate(vc, vm, u);
+    Built {
+        answer: 0,
+        skipped: skipped,
+        counts: Counts {
+            vertices: u,
+            corners: n,
+        },
+    }
+}
+
+// Points, faces and the rest, on a blank table.
+fn add_all(
+    cv: &mut [u32],
+    co: &mut [u32],
+    cm: &mut [u32],
+    vc: &mut [u32],
+    vm: &mut [u32],
+    vp: &mut [f32],
+    points: &[f32],
+    faces: &[u32],
+    corners: u32,
+    room: u32,
+    count: u32,
+) -> Built
+    requires { ⌜ Fresh (now cv) (now co) (now cm) (now vc) (now vm) (now vp) (now points) corners room count ⌝ }
+    ensures { λ r. ⌜ outcome (r .answer) (r .skipped) (now (cv .exit)) (now (co .exit)) (now (cm .exit)) (now (vc .exit)) (now (vm .exit)) (now (vp .exit)) (r .counts .vertices) (r .counts .corners)
+        ≡ finishOf corners room count (now (points .entry)) (facesOf count corners (start corners room) (now (faces .entry))) ⌝ }
+{
+    builder_faces::add_vertices(vp, points);
+    let r = builder_faces::add_faces(cv, co, vc, count, corners, faces);
+    if r.answer != 0 {
+        let none = clear(cv, co, cm, vc, vm, vp);
+        return Built {
+            answer: r.answer,
+            skipped: 0,
+            counts: none,
+        };
+    }
+    finish(cv, co, cm, vc, vm, vp, r.corners, count, room, r.skipped)
+}
+
+// Builds the table in the six lent parts. The counts are those of the table that was there; they come back where nothing is written.
+pub fn build(
+    cv: &mut [u32],
+    co: &mut [u32],
+    cm: &mut [u32],
+    vc: &mut [u32],
+    vm: &mut [u32],
+    vp: &mut [f32],
+    counts: Counts,
+    points: &[f32],
+    faces: &[u32],
+) -> Built
+    ensures { λ r. ⌜ outcome (r .answer) (r .skipped) (now (cv .exit)) (now (co .exit)) (now (cm .exit)) (now (vc .exit)) (now (vm .exit)) (now (vp .exit)) (r .counts .vertices) (r .counts .corners)
+        ≡ buildOf (table (now (cv .entry)) (now (co .entry)) (now (cm .entry)) (now (vc .entry)) (now (vm .entry)) (now (vp .entry)) (counts .vertices) (counts .corners)) (now (points .entry)) (now (faces .entry)) ⌝ }
+{
+    if !table::is_shaped(cv.len(), co.len(), cm.len(), vc.len(), vm.len(), vp.len()) {
+        return Built {
+            answer: 1,
+            skipped: 0,
+            counts: counts,
+        };
+    }
+    if points.len() % 3 != 0 {
+        return Built {
+            answer: 1,
+            skipped: 0,
+            counts: counts,
+        };
+    }
+    let corners = cm.len();
+    let room = vm.len();
+    let count = points.len() / 3;
+    let blank = clear(cv, co, cm, vc, vm, vp);
+    if count > room {
+        return Built {
+            answer: 5,
+            skipped: 0,
+            counts: blank,
+        };
+    }
+    if !builder_faces::all_finite(points) {
+        return Built {
+            answer: 4,
+            skipped: 0,
+            counts: blank,
+        };
+    }
+    add_all(
+        cv,
+        co,
+        cm,
+        vc,
+        vm,
+        vp,
+        points,
+        faces,
+        corners as u32,
+        room as u32,
+        count as u32,
+    )
+}

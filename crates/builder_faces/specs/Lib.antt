@@ -1,0 +1,3 @@
+-- The terms in which the code for points and faces speaks of the build.
+pub mod Search
+pub mod Steps
