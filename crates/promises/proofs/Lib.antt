@@ -1,0 +1,3 @@
+-- The promises, kept.
+pub mod Promises
+pub mod Meshes

@@ -1,0 +1,2 @@
+-- What is promised of whole scripts.
+pub mod Promises
