@@ -1,3 +1,8 @@
 -- The promises, kept.
 pub mod Promises
 pub mod Meshes
+pub mod Agree
+pub mod SameReads
+pub mod SameEffects
+pub mod SameAnswers
+pub mod MoreRoom
