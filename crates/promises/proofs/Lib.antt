@@ -6,3 +6,6 @@ pub mod SameReads
 pub mod SameEffects
 pub mod SameAnswers
 pub mod MoreRoom
+pub mod Words
+pub mod SameFormed
+pub mod RunRoom

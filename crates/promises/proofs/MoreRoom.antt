@@ -88,3 +88,20 @@ from s (suc k) i answers t u Z W S f =
 
 pub more-room : MoreRoom
 more-room t u Z W S s answers k f = from s k 0 answers t u Z W S f
+
+last : (s : List ℕ) (i j d : ℕ) (t : Table) (answers : List ℕ) → j + i ≡ d → Fitting s (suc i) j t
+    → Fitting s i j t × (answer (commands s i j answers t .table) (commandAt s d) ≢ 5) × (answer (commands s i j answers t .table) (commandAt s d) ≢ 6)
+unfolding commands
+last s zero j d t answers e f =
+    let z : j ≡ d = omega arith in
+    (tt, subst (λ (x : ℕ). answer t (commandAt s x) ≢ 5) z (f .0), subst (λ (x : ℕ). answer t (commandAt s x) ≢ 6) z (f .1))
+last s (suc i) j d t answers e f =
+    let p = last s i (j + 1) d (step t (commandAt s j)) (set answers j (answer t (commandAt s j))) (omega arith) (f .2) in
+    ((f .0, f .1, p .0), p .1, p .2)
+
+-- if i + 1 commands fit, so do the first i, and the last one
+pub last-fits : (s : List ℕ) (i j d : ℕ) (t : Table) (answers : List ℕ) → j + i ≡ d → Fitting s (i + 1) j t
+    → Fitting s i j t × (answer (commands s i j answers t .table) (commandAt s d) ≢ 5) × (answer (commands s i j answers t .table) (commandAt s d) ≢ 6)
+last-fits s i j d t answers e f =
+    let z : i + 1 ≡ suc i = omega arith in
+    last s i j d t answers e (subst (λ (n : ℕ). Fitting s n j t) z f)
