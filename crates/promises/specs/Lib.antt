@@ -1,0 +1,3 @@
+-- What is promised of whole scripts.
+pub mod Promises
+pub mod Rooms
