@@ -13,7 +13,6 @@ use Rattle.ring.specs.Ring.{side, ring}
 use Rattle.edit.specs.Plans.{around}
 use Rattle.edit.specs.Collapse.{winged, either, collapseVertices, collapseOpposites, collapseMarks, collapseCorners, collapseEdge}
 use Rattle.edge_collapse.specs.EdgeCollapse.{meetsBorder, neighbours, timesIn, commonIn, affectsBoundary, unsafe}
-use Rattle.command.specs.declared.Edit.{Edit}
 use Rattle.command.specs.declared.Edit.the-variants.{Collapse, Flip, SplitFace}
 use Rattle.command.specs.Answers.{first, targeted, roomFor, collapseAnswer, flipAnswer, splitFaceAnswer, answer}
 use Rattle.command.specs.Decode.{decoded, commandAt}

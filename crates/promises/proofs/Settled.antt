@@ -1,10 +1,8 @@
 -- What specs/Settled.antt promises: both outcomes are the definition's. Assumes nothing.
-use Prim.Native.Nat.{ℕ}
-use mathlib.Core.Path.{_≡_, refl, sym, ap, _∙_}
-use Rattle.table.specs.Table.{Table}
+use mathlib.Core.Path.{_≡_, sym, ap, _∙_}
 use Rattle.build.specs.Build.{Outcome}
 use Rattle.traversal.specs.Ring.{Outcome as Walked, outcome}
-use Rattle.promises.specs.Settled.{CheckSettled, built, BuildSettled, OneRing, RingSettled, MoveSettled}
+use Rattle.promises.specs.Settled.{CheckSettled, built, BuildSettled, RingSettled, MoveSettled}
 
 pub check-settled : CheckSettled
 check-settled t v w x y = x ∙ sym y
