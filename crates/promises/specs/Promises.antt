@@ -1,4 +1,5 @@
--- What is promised of a script on a well-formed table, over the definitions of the commands. The theorems are in proofs/Promises.antt.
+-- What is promised of a script on a well-formed table, over the definitions of the commands. The theorems are in
+-- proofs/Promises.antt and proofs/Words.antt.
 use Prim.Native.Nat.{ℕ, _≤_, _<_}
 use mathlib.Core.Path.{_≡_}
 use mathlib.Core.Logic.{_≢_}
