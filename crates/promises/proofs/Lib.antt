@@ -9,3 +9,4 @@ pub mod MoreRoom
 pub mod Words
 pub mod SameFormed
 pub mod RunRoom
+pub mod Settled

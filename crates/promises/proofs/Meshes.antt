@@ -1,18 +1,27 @@
--- Document 01, "Small meshes to compare": the marked refusals, by computing the answers. Assumes nothing.
+-- Document 01, "Small meshes to compare": the marked refusals, by computing the answers, of single commands and of whole runs. Assumes nothing.
+use Prim.Native.Nat.{ℕ}
 use mathlib.Core.Path.{_≡_, refl}
+use mathlib.Core.List.{List, [], _∷_}
 use lib.Ieee.{ofBits}
 use Rattle.corner.specs.Corner.{next, previous}
 use Rattle.vertex.specs.declared.Point.{Point}
+use Rattle.vertex.specs.Point.{pointOfBits}
 use Rattle.table.specs.Slots.{nought}
-use Rattle.table.specs.Meshes.{meshB, meshT, one, two, three}
+use Rattle.table.specs.Table.{shapedBy, live}
+use Rattle.table.specs.Meshes.{meshA, meshB, meshT, one, two, three}
 use Rattle.ring.specs.Ring.{side, ring}
 use Rattle.edit.specs.Plans.{around}
 use Rattle.edit.specs.Collapse.{winged, either, collapseVertices, collapseOpposites, collapseMarks, collapseCorners, collapseEdge}
 use Rattle.edge_collapse.specs.EdgeCollapse.{meetsBorder, neighbours, timesIn, commonIn, affectsBoundary, unsafe}
-use Rattle.command.specs.declared.Edit.{Edit}
-use Rattle.command.specs.declared.Edit.the-variants.{Collapse, Flip}
-use Rattle.command.specs.Answers.{first, targeted, collapseAnswer, flipAnswer, answer}
+use Rattle.command.specs.declared.Edit.the-variants.{Collapse, Flip, SplitFace}
+use Rattle.command.specs.Answers.{first, targeted, roomFor, collapseAnswer, flipAnswer, splitFaceAnswer, answer}
+use Rattle.command.specs.Decode.{decoded, commandAt}
 use Rattle.command.specs.Step.{effect, step}
+use Rattle.checker.specs.First.{firstFrom, firstBad}
+use Rattle.checker.specs.Tests.{swing, near, countsTest, markTest, faceTest, vertexTest, differTest, backTest, matesTest, oppositeTest, cornerTest, fanTest, pointTest, holds}
+use Rattle.checker.specs.Order.{testAt, ruleOf, span, slotOf, firstOf, clean, ruled, verdictOf}
+use Rattle.script.specs.Run.{progress, commands, whole, fits, run}
+use Rattle.promises.specs.Rooms.{extended}
 
 -- the origin
 abbrev origin : Point
@@ -37,3 +46,32 @@ t-collapse = refl
 pub t-then : answer (step meshT (Collapse (record { 0 = 0 }) origin)) (Collapse (record { 0 = 3 }) origin) ≡ 12
 unfolding step effect answer collapseAnswer targeted first affectsBoundary meetsBorder unsafe neighbours timesIn commonIn collapseEdge around collapseVertices collapseOpposites collapseMarks collapseCorners winged either ring side next previous nought ofBits
 t-then = refl
+
+-- ---- the same as whole runs from lists of words: the check, the words decoded, one answer word to a command, the last word unused
+
+abbrev b-script : List ℕ
+b-script = 2 ∷ 0 ∷ 0 ∷ 0 ∷ 0 ∷ 1 ∷ 1 ∷ 0 ∷ 0 ∷ 0 ∷ []
+
+pub b-run : run meshB b-script (99 ∷ 99 ∷ 99 ∷ []) ≡ whole 0 0 0 (progress (11 ∷ 11 ∷ 99 ∷ []) meshB)
+unfolding run fits commands commandAt decoded pointOfBits step effect answer collapseAnswer flipAnswer targeted first affectsBoundary meetsBorder side verdictOf ruled clean firstOf slotOf span ruleOf testAt holds pointTest fanTest cornerTest oppositeTest matesTest backTest differTest vertexTest faceTest markTest countsTest near swing firstBad firstFrom three two one nought live shapedBy previous next ofBits
+b-run = refl
+
+abbrev t-script : List ℕ
+t-script = 1 ∷ 0 ∷ 0 ∷ 0 ∷ 0 ∷ 1 ∷ 3 ∷ 0 ∷ 0 ∷ 0 ∷ []
+
+pub t-run : run meshT t-script (99 ∷ 99 ∷ 99 ∷ []) .progress .answers ≡ 0 ∷ 12 ∷ 99 ∷ []
+unfolding run fits commands commandAt decoded pointOfBits step effect answer collapseAnswer targeted first affectsBoundary meetsBorder unsafe neighbours timesIn commonIn collapseEdge around collapseVertices collapseOpposites collapseMarks collapseCorners winged either ring side verdictOf ruled clean firstOf slotOf span ruleOf testAt holds pointTest fanTest cornerTest oppositeTest matesTest backTest differTest vertexTest faceTest markTest countsTest near swing firstBad firstFrom three two one nought live shapedBy previous next ofBits
+t-run = refl
+
+-- "A with room for 3 vertices, split face: 5. With 4 vertices and 8 corners: 6; with 9: done."
+pub a-split-5 : answer meshA (SplitFace (record { 0 = 0 }) origin) ≡ 5
+unfolding answer splitFaceAnswer targeted first roomFor nought ofBits
+a-split-5 = refl
+
+pub a-split-6 : answer (extended 5 1 meshA) (SplitFace (record { 0 = 0 }) origin) ≡ 6
+unfolding answer splitFaceAnswer targeted first roomFor nought ofBits
+a-split-6 = refl
+
+pub a-split-done : answer (extended 6 1 meshA) (SplitFace (record { 0 = 0 }) origin) ≡ 0
+unfolding answer splitFaceAnswer targeted first roomFor nought ofBits
+a-split-done = refl

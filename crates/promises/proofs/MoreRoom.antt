@@ -1,8 +1,8 @@
 -- The same script on the same table with more room. Assumes nothing.
-use Prim.Native.Nat.{ℕ, zero, suc, _+_, _≤_, _<_}
-use mathlib.Core.Path.{_≡_, refl, sym, ap, subst, _∙_}
+use Prim.Native.Nat.{ℕ, zero, suc, _+_}
+use mathlib.Core.Path.{_≡_, refl, sym, subst, _∙_}
 use mathlib.Core.Logic.{_≢_}
-use mathlib.Core.Bool.{Bool, true, false, cond}
+use mathlib.Core.Bool.{false, cond}
 use mathlib.Core.List.{List}
 use native.Mathlib.Omega.{arith}
 use native.Mathlib.Decide.{ℕ-discrete}
@@ -23,7 +23,7 @@ use Rattle.command.specs.Answers.{collapseAnswer, flipAnswer, splitEdgeAnswer, 
 use Rattle.command.specs.Step.{effect, step}
 use Rattle.command.proofs.Chain.{first-left, first-right, when-false}
 use Rattle.command.proofs.Passed.{corner-live, face-live, room-passed, opposite-there, step-kept}
-use Rattle.script.specs.Run.{Progress, commands}
+use Rattle.script.specs.Run.{commands}
 use Rattle.promises.specs.Rooms.{Roomier, Fitting, Alongside, MoreRoom}
 use Rattle.promises.proofs.SameEffects.{flip-same, collapse-same, face-same, edge-same}
 use Rattle.promises.proofs.SameAnswers.{answer-same}

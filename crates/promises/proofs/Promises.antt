@@ -1,22 +1,21 @@
 -- What specs/Promises.antt promises. Assumes nothing.
 use Prim.Native.Nat.{ℕ, zero, suc, _+_}
 use mathlib.Core.Path.{_≡_, refl, sym, ap, _∙_}
-use mathlib.Core.Logic.{_≢_}
 use mathlib.Core.List.{List}
-use mathlib.Core.Bool.{cond}
 use borrow.Author.Tests.{ne-eqb}
 use lib.ListN.{set}
 use Rattle.table.specs.Table.{Table, Shaped}
 use Rattle.table.specs.Rules.{WellFormed}
+use Rattle.build.specs.Build.{build}
+use Rattle.build.proofs.Promise.{finished}
 use Rattle.keeps.specs.Keeps.{Kept}
-use Rattle.command.specs.declared.Edit.{Edit}
 use Rattle.command.specs.Decode.{commandAt}
 use Rattle.command.specs.Answers.{answer}
 use Rattle.command.specs.Step.{step}
 use Rattle.command.proofs.Passed.{step-kept}
-use Rattle.script.specs.Run.{Whole, whole, progress, commands, Outcome}
+use Rattle.script.specs.Run.{Whole, whole, progress, commands}
 use Rattle.script.proofs.Loop.{kept-trans}
-use Rattle.promises.specs.Promises.{AfterEvery, Refused, OneOutcome, Settled, StepSettled}
+use Rattle.promises.specs.Promises.{AfterEvery, AfterBuild, Refused, Settled, StepSettled}
 
 -- k commands from i on: each keeps what the ones before it kept
 from : (s : List ℕ) (k i : ℕ) (answers : List ℕ) (t : Table) → Shaped t → WellFormed t → Kept t (commands s k i answers t .table)
@@ -28,6 +27,11 @@ from s (suc k) i answers t Z W =
 
 pub after-every : AfterEvery
 after-every t Z W s answers k = from s k 0 answers t Z W
+
+pub after-build : AfterBuild
+after-build t points faces e s answers k =
+    let g : Shaped (build t points faces .result) × WellFormed (build t points faces .result) = finished t points faces e in
+    after-every (build t points faces .result) (g .0) (g .1) s answers k
 
 pub refused : Refused
 unfolding step

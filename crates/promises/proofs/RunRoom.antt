@@ -1,22 +1,19 @@
 -- Whole runs in a larger room: both tables pass the check, so both runs are their commands. Assumes nothing.
-use Prim.Native.Nat.{ℕ, zero, suc, _+_, _/_, _%_, _≤_, _<_}
-use mathlib.Core.Path.{_≡_, refl, sym, ap, subst, _∙_}
+use Prim.Native.Nat.{ℕ, _+_, _/_, _%_, _≤_, _<_}
+use mathlib.Core.Path.{_≡_, refl, sym, _∙_}
 use mathlib.Core.Bool.{Bool, true, false, cond, _&&_, false≢true}
 use mathlib.Core.List.{List}
 use native.Mathlib.Omega.{arith}
-use borrow.Author.Tests.{eqb-true, leb-true}
+use borrow.Author.Tests.{leb-true}
 use lib.Dec.{eqb, leb}
 use lib.ListN.{length, getD}
 use Rattle.table.specs.Table.{Table, shaped, Shaped}
 use Rattle.table.specs.Rules.{WellFormed}
 use Rattle.table.proofs.Shape.{true-shaped}
-use Rattle.checker.specs.Order.{verdictOf, passed}
 use Rattle.checker.proofs.Judge.{verdict-complete}
-use Rattle.command.specs.declared.Edit.{Edit}
 use Rattle.command.specs.Decode.{commandAt}
 use Rattle.command.specs.Answers.{answer}
-use Rattle.command.specs.Step.{step}
-use Rattle.script.specs.Run.{Progress, progress, commands, Whole, whole, fits, run}
+use Rattle.script.specs.Run.{progress, commands, Whole, whole, fits, run}
 use Rattle.promises.specs.Rooms.{Roomier, Fitting, Alongside, RunsAlongside, RunsInMoreRoom, WordsInMoreRoom}
 use Rattle.promises.proofs.MoreRoom.{more-room, last-fits}
 use Rattle.promises.proofs.SameAnswers.{answer-same}

@@ -1,25 +1,23 @@
 -- The answers are the same in a larger room, but for 5 and 6. Assumes nothing.
-use Prim.Native.Nat.{ℕ, _+_, _*_, _/_, _≤_, _<_}
-use mathlib.Core.Path.{_≡_, refl, sym, ap, ap₂, _∙_}
+use Prim.Native.Nat.{ℕ, _+_, _/_, _≤_, _<_}
+use mathlib.Core.Path.{_≡_, refl, ap, _∙_}
 use mathlib.Core.Logic.{_≢_}
-use mathlib.Core.Bool.{Bool, true, false, cond, not}
+use mathlib.Core.Bool.{Bool, true, false, cond}
 use native.Mathlib.Omega.{arith}
 use borrow.Author.Tests.{le-ltb, eq-eqb, ltb-true, ltb-false}
 use lib.Dec.{eqb, ltb}
 use Rattle.corner.specs.Corner.{absent, firstCorner}
 use Rattle.vertex.specs.declared.Point.{Point}
-use Rattle.vertex.specs.Point.{finitePoint}
-use Rattle.table.specs.Slots.{markAt}
-use Rattle.table.specs.Table.{Table, cornerRoom, vertexRoom, vertex, opposite, Live, Shaped}
+use Rattle.table.specs.Table.{Table, cornerRoom, vertexRoom, opposite, Live, Shaped}
 use Rattle.table.specs.Rules.{WellFormed}
-use Rattle.edge_collapse.specs.EdgeCollapse.{affectsBoundary, unsafe}
+use Rattle.edge_collapse.specs.EdgeCollapse.{affectsBoundary}
 use Rattle.edge_collapse.proofs.Paper.{inner}
 use Rattle.command.specs.declared.Edit.{Edit}
 use Rattle.command.specs.declared.Edit.the-variants.{Collapse, Flip, SplitEdge, SplitFace, Unknown}
 use Rattle.command.specs.Answers.{first, when, targeted, roomFor, cornerTarget, faceTarget, notFinite, noRoom, noOpposite, sameWings, collapseAnswer, flipAnswer, splitEdgeAnswer, splitFaceAnswer, answer}
 use Rattle.command.proofs.Chain.{first-same, when-false}
-use Rattle.command.proofs.Passed.{corner-live, face-live, opposite-there}
-use Rattle.promises.specs.Rooms.{Agree, Roomier}
+use Rattle.command.proofs.Passed.{corner-live, opposite-there}
+use Rattle.promises.specs.Rooms.{Roomier}
 use Rattle.promises.proofs.SameReads.{same-opposite, same-vertex, same-mark, affects-same, unsafe-same}
 
 -- a room that is enough is so where there is more; else the answer is 5 or 6
@@ -53,8 +51,8 @@ roomed : (a x f r q : ℕ) → a ≡ x → first a (first f r) ≢ 5 → first a
 roomed a x f r q e five six h =
     first-same a _ x _ e
     (λ z.
-      first-same f _ f _ refl
-      (λ g. h z (λ k. five (first-zero a _ z ∙ first-zero f _ g ∙ k)) (λ k. six (first-zero a _ z ∙ first-zero f _ g ∙ k))))
+    first-same f _ f _ refl
+    (λ g. h z (λ k. five (first-zero a _ z ∙ first-zero f _ g ∙ k)) (λ k. six (first-zero a _ z ∙ first-zero f _ g ∙ k))))
 
 -- the corners that an edge split needs
 abbrev needs : ℕ → ℕ
@@ -87,7 +85,7 @@ module _ {t u : Table} (S : Roomier t u) where
       roomed (cornerTarget t c) (cornerTarget u c) (notFinite p) (noRoom t (needs (opposite t c))) (noRoom u (needs (opposite u c)))
       (corner-target-same c) five six
       (λ z v w.
-        no-room-same (needs (opposite t c)) v w ∙ ap (λ (o : ℕ). noRoom u (needs o)) (same-opposite S c (corner-live t c z .0)))
+      no-room-same (needs (opposite t c)) v w ∙ ap (λ (o : ℕ). noRoom u (needs o)) (same-opposite S c (corner-live t c z .0)))
 
   -- the rest of a flip and of a collapse needs a well-formed table
   module _ (Z : Shaped t) (W : WellFormed t) (c : ℕ) where
@@ -100,23 +98,23 @@ module _ {t u : Table} (S : Roomier t u) where
     flip-answer-same =
         first-same (cornerTarget t c) _ (cornerTarget u c) _ (corner-target-same c)
         (λ z.
-          let h : Live t c = corner-live t c z in
-          first-same (noOpposite t c) _ (noOpposite u c) _ (ap (λ (o : ℕ). when (eqb o absent) 11) (same-opposite S c (h .0)))
-          (λ n. wings-same h (opposite-there t c n)))
+        let h : Live t c = corner-live t c z in
+        first-same (noOpposite t c) _ (noOpposite u c) _ (ap (λ (o : ℕ). when (eqb o absent) 11) (same-opposite S c (h .0)))
+        (λ n. wings-same h (opposite-there t c n)))
 
     collapse-answer-same : (p : Point) → collapseAnswer t c p ≡ collapseAnswer u c p
     unfolding collapseAnswer
     collapse-answer-same p =
         first-same (cornerTarget t c) _ (cornerTarget u c) _ (corner-target-same c)
         (λ z.
-          let h : Live t c = corner-live t c z in
-          first-same (notFinite p) _ (notFinite p) _ refl
-          (λ f.
-            first-same (when (affectsBoundary t c) 11) _ (when (affectsBoundary u c) 11) _ (ap (λ (b : Bool). when b 11) (affects-same S Z W c h))
-            (λ b.
-              first-same (sameWings t c) _ (sameWings u c) _
-              (wings-same h (inner t Z W c h (when-false (affectsBoundary t c) 11 (omega arith) b)))
-              (λ w. ap (λ (b : Bool). when b 13) (unsafe-same S Z W c h)))))
+        let h : Live t c = corner-live t c z in
+        first-same (notFinite p) _ (notFinite p) _ refl
+        (λ f.
+        first-same (when (affectsBoundary t c) 11) _ (when (affectsBoundary u c) 11) _ (ap (λ (b : Bool). when b 11) (affects-same S Z W c h))
+        (λ b.
+        first-same (sameWings t c) _ (sameWings u c) _
+        (wings-same h (inner t Z W c h (when-false (affectsBoundary t c) 11 (omega arith) b)))
+        (λ w. ap (λ (b : Bool). when b 13) (unsafe-same S Z W c h)))))
 
   -- an answer of the smaller table other than 5 and 6 is the larger one's too
   pub answer-same : Shaped t → WellFormed t → (e : Edit) → answer t e ≢ 5 → answer t e ≢ 6 → answer t e ≡ answer u e

@@ -1,20 +1,17 @@
 -- Each edit writes the same in a larger room: its plan is the same, and every write keeps two parts that agree. Assumes nothing.
 use Prim.Native.Nat.{ℕ, _+_, _*_, _≤_, _<_}
-use mathlib.Core.Path.{_≡_, refl, sym, ap, subst, _∙_}
+use mathlib.Core.Path.{_≡_, refl, sym, subst}
 use mathlib.Core.Logic.{_≢_}
-use mathlib.Core.Bool.{Bool, true, false, cond}
-use mathlib.Core.List.{List}
+use mathlib.Core.Bool.{cond}
 use native.Mathlib.Omega.{arith}
 use native.Mathlib.Decide.{ℕ-discrete}
 use borrow.Author.Tests.{eq-eqb, ne-eqb}
 use lib.Dec.{eqb}
-use lib.Ieee.{Float}
-use lib.ListN.{length, set, length-set}
+use lib.ListN.{set, length-set}
 use Rattle.corner.specs.Corner.{absent, next, previous, firstCorner}
-use Rattle.corner.proofs.Turns.{next-previous}
 use Rattle.vertex.specs.declared.Point.{Point}
-use Rattle.table.specs.Slots.{oppositeAt, pointAt, paired, relabel, three, withPoint}
-use Rattle.table.specs.Table.{Table, table, cornerRoom, vertexRoom, vertex, opposite, corner, Live, Shaped}
+use Rattle.table.specs.Slots.{oppositeAt, pointAt, paired, withPoint}
+use Rattle.table.specs.Table.{Table, cornerRoom, vertexRoom, vertex, opposite, corner, Live, Shaped}
 use Rattle.table.specs.Rules.{WellFormed}
 use Rattle.fan.proofs.Fan.{Linked, face-previous}
 use Rattle.fan.proofs.Tables.{table-linked}
@@ -28,7 +25,7 @@ use Rattle.edit.specs.SplitEdge.{splitPoints, splitCorners, innerVertices, inne
 use Rattle.edit.specs.Collapse.{collapseVertices, collapseOpposites, collapseMarks, collapseCorners, collapsed, collapseEdge}
 use Rattle.promises.specs.Rooms.{Agree, Roomier}
 use Rattle.promises.proofs.Agree.{agree-set, agree-grow, agree-paired, agree-relabel, agree-three, agree-six, agree-point, agree-place, agree-winged}
-use Rattle.promises.proofs.SameReads.{same-opposite, same-vertex, same-corner, same-point, ring-same, triangle-same, around-same}
+use Rattle.promises.proofs.SameReads.{same-opposite, same-corner, same-point, ring-same, triangle-same, around-same}
 
 module _ {t u : Table} (S : Roomier t u) where
   -- ---- a given plan
@@ -97,8 +94,8 @@ module _ {t u : Table} (S : Roomier t u) where
     split-points-same v at h =
         subst
         (λ (q : Point).
-          Agree (3 * (t .vertices + 1)) (withPoint (withPoint (t .vertexPoint) v at) (t .vertices) (pointAt (t .vertexPoint) v))
-          (withPoint (withPoint (u .vertexPoint) v at) (t .vertices) q))
+        Agree (3 * (t .vertices + 1)) (withPoint (withPoint (t .vertexPoint) v at) (t .vertices) (pointAt (t .vertexPoint) v))
+        (withPoint (withPoint (u .vertexPoint) v at) (t .vertices) q))
         (same-point S v h)
         (agree-place (t .vertices) (pointAt (t .vertexPoint) v) (rw (length-set, length-set, length-set) (omega (arith, Z .vertexPointRoom)))
         (agree-point v at (S .vertexPoint)))
@@ -130,10 +127,10 @@ module _ {t u : Table} (S : Roomier t u) where
     inner-opposites-same p room h =
         let n : ℕ = t .corners in
         let o : Agree (n + 6) (paired (six (t .cornerOpposite) n absent absent absent absent absent absent) (p .o0 .0) (n + 2))
-            (paired (six (u .cornerOpposite) n absent absent absent absent absent absent) (p .o0 .0) (n + 2)) =
+        (paired (six (u .cornerOpposite) n absent absent absent absent absent absent) (p .o0 .0) (n + 2)) =
         agree-paired _ _ (agree-six _ _ _ _ _ _ (omega (arith, Z .cornerOppositeRoom)) (S .cornerOpposite)) in
         let b : oppositeAt (paired (six (t .cornerOpposite) n absent absent absent absent absent absent) (p .o0 .0) (n + 2)) (p .c5 .0)
-            ≡ oppositeAt (paired (six (u .cornerOpposite) n absent absent absent absent absent absent) (p .o0 .0) (n + 2)) (p .c5 .0) =
+        ≡ oppositeAt (paired (six (u .cornerOpposite) n absent absent absent absent absent absent) (p .o0 .0) (n + 2)) (p .c5 .0) =
         o .same (p .c5 .0) absent (omega arith) in
         rw (← b) (agree-paired _ _ (agree-paired _ _ (agree-paired _ _ (agree-paired _ _ o))))
 

@@ -1,25 +1,23 @@
 -- What a command reads of a well-formed table it finds in a larger room too: each read is of a used slot. Assumes nothing.
-use Prim.Native.Nat.{ℕ, zero, suc, _+_, _*_, _≤_, _<_}
+use Prim.Native.Nat.{ℕ, zero, suc, _+_, _*_, _<_}
 use mathlib.Core.Path.{_≡_, refl, sym, ap, ap₂, _∙_}
 use mathlib.Core.Logic.{_≢_}
-use mathlib.Core.Bool.{Bool, true, false, cond, _||_, not}
-use mathlib.Core.List.{List, [], _∷_, _++_, map}
+use mathlib.Core.Bool.{Bool, true, false, cond}
+use mathlib.Core.List.{List, _∷_, map}
 use native.Mathlib.Omega.{arith}
 use native.Mathlib.Decide.{ℕ-discrete}
 use borrow.Author.Tests.{eq-eqb, ne-eqb}
-use lib.Dec.{eqb, ltb}
-use lib.ListN.{getD}
+use lib.Dec.{eqb}
 use Rattle.corner.specs.Corner.{absent, next, previous, turn}
-use Rattle.vertex.specs.declared.Point.{Point}
 use Rattle.table.specs.Slots.{vertexAt, markAt, nought, pointAt}
-use Rattle.table.specs.Table.{Table, vertex, opposite, corner, Live, LiveVertex, Shaped}
+use Rattle.table.specs.Table.{Table, vertex, opposite, corner, Live, Shaped}
 use Rattle.table.specs.Rules.{WellFormed}
 use Rattle.fan.proofs.Fan.{Linked, face-previous}
 use Rattle.fan.proofs.Tables.{table-linked}
 use Rattle.ring.specs.Ring.{Side, stop, more, side, ring}
 use Rattle.edit.specs.Plans.{around, triangle}
-use Rattle.edge_collapse.specs.EdgeCollapse.{meetsBorder, neighbours, timesIn, commonIn, affectsBoundary, ringOf, unsafe}
-use Rattle.promises.specs.Rooms.{Agree, Roomier}
+use Rattle.edge_collapse.specs.EdgeCollapse.{meetsBorder, neighbours, affectsBoundary, ringOf, unsafe}
+use Rattle.promises.specs.Rooms.{Roomier}
 
 module _ {t u : Table} (S : Roomier t u) where
   pub same-opposite : (c : ℕ) → c < t .corners → opposite t c ≡ opposite u c

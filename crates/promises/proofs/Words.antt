@@ -1,6 +1,6 @@
 -- The answer words of a script, one by one. Assumes nothing.
-use Prim.Native.Nat.{ℕ, zero, suc, _+_, _*_, _/_, _≤_, _<_}
-use mathlib.Core.Path.{_≡_, refl, sym, ap, subst, _∙_}
+use Prim.Native.Nat.{ℕ, zero, suc, _+_, _/_, _≤_, _<_}
+use mathlib.Core.Path.{_≡_, refl, sym, ap, _∙_}
 use mathlib.Core.Bool.{Bool, true, false, cond, not}
 use mathlib.Core.List.{List}
 use native.Mathlib.Omega.{arith}
@@ -13,7 +13,6 @@ use Rattle.vertex.specs.Point.{finitePoint}
 use Rattle.table.specs.Slots.{markAt}
 use Rattle.table.specs.Table.{Table, cornerRoom, vertexRoom, vertex, opposite}
 use Rattle.edge_collapse.specs.EdgeCollapse.{affectsBoundary, unsafe}
-use Rattle.command.specs.declared.Edit.{Edit}
 use Rattle.command.specs.declared.Edit.the-variants.{Collapse, Flip, SplitEdge, SplitFace, Unknown}
 use Rattle.command.specs.Decode.{commandAt}
 use Rattle.command.specs.Answers.{first, when, targeted, roomFor, cornerTarget, notFinite, sameWings, collapseAnswer, flipAnswer, splitEdgeAnswer, splitFaceAnswer, answer}

@@ -1,11 +1,14 @@
--- What is promised of a script on a well-formed table, over the definitions of the commands. The theorems are in proofs/Promises.antt.
+-- What is promised of a script on a well-formed table, over the definitions of the commands. The theorems are in
+-- proofs/Promises.antt and proofs/Words.antt.
 use Prim.Native.Nat.{ℕ, _≤_, _<_}
 use mathlib.Core.Path.{_≡_}
 use mathlib.Core.Logic.{_≢_}
 use mathlib.Core.List.{List}
+use lib.Ieee.{Float}
 use lib.ListN.{length, getD}
 use Rattle.table.specs.Table.{Table, Shaped}
 use Rattle.table.specs.Rules.{WellFormed}
+use Rattle.build.specs.Build.{build}
 use Rattle.keeps.specs.Keeps.{Kept}
 use Rattle.command.specs.declared.Edit.{Edit}
 use Rattle.command.specs.Decode.{commandAt}
@@ -18,6 +21,11 @@ use Rattle.script.specs.Run.{commands, Outcome}
 -- what it was", and the lent parts have their lengths
 abbrev pub AfterEvery : Type 0
 AfterEvery = (t : Table) → Shaped t → WellFormed t → (s answers : List ℕ) (k : ℕ) → Kept t (commands s k 0 answers t .table)
+
+-- ... and so from a table that a build made: a build that answers 0 and any script after it
+abbrev pub AfterBuild : Type 0
+AfterBuild = (t : Table) (points : List Float) (faces : List ℕ) → build t points faces .answer ≡ 0 → (s answers : List ℕ) (k : ℕ)
+    → Kept (build t points faces .result) (commands s k 0 answers (build t points faces .result) .table)
 
 -- A refused command, one that does not answer 0, leaves every slot and both counts as they were, on any table
 abbrev pub Refused : Type 0

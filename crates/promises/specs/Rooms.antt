@@ -1,4 +1,5 @@
--- More room: the same table in longer lent parts. The theorem is in proofs/MoreRoom.antt.
+-- More room: the same table in longer lent parts. The theorems are in proofs/MoreRoom.antt, proofs/RunRoom.antt and
+-- proofs/SameFormed.antt.
 use Prim.Native.Nat.{ℕ, zero, suc, _+_, _*_, _/_, _≤_, _<_}
 use mathlib.Core.Path.{_≡_}
 use mathlib.Core.Logic.{_≢_}
