@@ -1,5 +1,6 @@
 // The build, tried: the unmarked small meshes of document 01, bad input at every place, and rooms from 0 to above the maximum. What is
 // expected is written by hand from document 01. Each try prints what came out; the last line says how many were wrong.
+ghost use mathlib.Core.Path.{_≡_};
 ghost use Prim.Native.Nat.{_+_, _*_, _<_, _≤_};
 use builder::Built;
 use libc::STDOUT_FILENO;
@@ -14,8 +15,14 @@ struct Want {
     slots: u32,
 }
 
-fn plus(a: u32, b: u32) -> u32 {
-    std::num::wrapping_add_u32(a, b)
+// The sum, held at the most a u32 can say: a wrong try is never lost.
+fn plus(a: u32, b: u32) -> u32
+    ensures { λ r. ⌜ (a ≤ r) × (b ≤ r) ⌝ }
+{
+    if a > 4294967295 - b {
+        return 4294967295;
+    }
+    a + b
 }
 
 // ---- looking
@@ -71,7 +78,9 @@ fn same(
     all_floats(vp, bits)
 }
 
-fn slots(cv: &[u32], co: &[u32], cm: &[u32], vc: &[u32], vm: &[u32], vp: &[f32]) -> u32 {
+fn slots(cv: &[u32], co: &[u32], cm: &[u32], vc: &[u32], vm: &[u32], vp: &[f32]) -> u32
+    ensures { λ r. ⌜ r ≤ 2 ⌝ }
+{
     if same(cv, co, cm, vc, vm, vp, 7, 7, 7) {
         return 0;
     }
@@ -104,7 +113,9 @@ fn right(b: Built, state: u32, want: Want) -> bool {
     state == want.slots
 }
 
-fn told(b: Built, state: u32, want: Want) -> u32 {
+fn told(b: Built, state: u32, want: Want) -> u32
+    ensures { λ r. ⌜ r ≤ 1 ⌝ }
+{
     number(b.answer as u64);
     number(b.skipped as u64);
     number(b.counts.vertices as u64);
@@ -120,7 +131,9 @@ fn told(b: Built, state: u32, want: Want) -> u32 {
 
 // The parts hold 7 in every slot and the counts are 9 and 9 before the call. 1 where what came out is not what was wanted.
 // Room for 6 corners and 4 vertices.
-fn attempt(points: &[f32], faces: &[u32], want: Want) -> u32 {
+fn attempt(points: &[f32], faces: &[u32], want: Want) -> u32
+    ensures { λ r. ⌜ r ≤ 1 ⌝ }
+{
     let seven = vertex::float_of(7);
     let mut cv = [7u32; 6];
     let mut co = [7u32; 6];
@@ -148,7 +161,9 @@ fn attempt(points: &[f32], faces: &[u32], want: Want) -> u32 {
 }
 
 // The same with room for 9 corners and 6 vertices.
-fn roomy(points: &[f32], faces: &[u32], want: Want) -> u32 {
+fn roomy(points: &[f32], faces: &[u32], want: Want) -> u32
+    ensures { λ r. ⌜ r ≤ 1 ⌝ }
+{
     let seven = vertex::float_of(7);
     let mut cv = [7u32; 9];
     let mut co = [7u32; 9];
@@ -176,7 +191,9 @@ fn roomy(points: &[f32], faces: &[u32], want: Want) -> u32 {
 }
 
 // One vertex short of four.
-fn short_vertices(points: &[f32], faces: &[u32], want: Want) -> u32 {
+fn short_vertices(points: &[f32], faces: &[u32], want: Want) -> u32
+    ensures { λ r. ⌜ r ≤ 1 ⌝ }
+{
     let seven = vertex::float_of(7);
     let mut cv = [7u32; 6];
     let mut co = [7u32; 6];
@@ -204,7 +221,9 @@ fn short_vertices(points: &[f32], faces: &[u32], want: Want) -> u32 {
 }
 
 // One corner short of two faces.
-fn short_corners(points: &[f32], faces: &[u32], want: Want) -> u32 {
+fn short_corners(points: &[f32], faces: &[u32], want: Want) -> u32
+    ensures { λ r. ⌜ r ≤ 1 ⌝ }
+{
     let seven = vertex::float_of(7);
     let mut cv = [7u32; 5];
     let mut co = [7u32; 5];
@@ -232,7 +251,9 @@ fn short_corners(points: &[f32], faces: &[u32], want: Want) -> u32 {
 }
 
 // Room for one corner and one vertex.
-fn single(points: &[f32], faces: &[u32], want: Want) -> u32 {
+fn single(points: &[f32], faces: &[u32], want: Want) -> u32
+    ensures { λ r. ⌜ r ≤ 1 ⌝ }
+{
     let seven = vertex::float_of(7);
     let mut cv = [7u32; 1];
     let mut co = [7u32; 1];
@@ -260,7 +281,9 @@ fn single(points: &[f32], faces: &[u32], want: Want) -> u32 {
 }
 
 // No room at all.
-fn roomless(points: &[f32], faces: &[u32], want: Want) -> u32 {
+fn roomless(points: &[f32], faces: &[u32], want: Want) -> u32
+    ensures { λ r. ⌜ r ≤ 1 ⌝ }
+{
     let seven = vertex::float_of(7);
     let mut cv = [7u32; 0];
     let mut co = [7u32; 0];
@@ -288,7 +311,9 @@ fn roomless(points: &[f32], faces: &[u32], want: Want) -> u32 {
 }
 
 // A part shorter than the others.
-fn uneven(points: &[f32], faces: &[u32], want: Want) -> u32 {
+fn uneven(points: &[f32], faces: &[u32], want: Want) -> u32
+    ensures { λ r. ⌜ r ≤ 1 ⌝ }
+{
     let seven = vertex::float_of(7);
     let mut cv = [7u32; 6];
     let mut co = [7u32; 6];
@@ -316,7 +341,9 @@ fn uneven(points: &[f32], faces: &[u32], want: Want) -> u32 {
 }
 
 // The largest room.
-fn top(points: &[f32], faces: &[u32], want: Want) -> u32 {
+fn top(points: &[f32], faces: &[u32], want: Want) -> u32
+    ensures { λ r. ⌜ r ≤ 1 ⌝ }
+{
     let seven = vertex::float_of(7);
     let mut cv = [7u32; 196605];
     let mut co = [7u32; 196605];
@@ -344,7 +371,9 @@ fn top(points: &[f32], faces: &[u32], want: Want) -> u32 {
 }
 
 // One corner above it.
-fn above(points: &[f32], faces: &[u32], want: Want) -> u32 {
+fn above(points: &[f32], faces: &[u32], want: Want) -> u32
+    ensures { λ r. ⌜ r ≤ 1 ⌝ }
+{
     let seven = vertex::float_of(7);
     let mut cv = [7u32; 196606];
     let mut co = [7u32; 196606];
@@ -372,7 +401,9 @@ fn above(points: &[f32], faces: &[u32], want: Want) -> u32 {
 }
 
 // Answer 1: nothing written, and the counts handed back.
-fn untouched() -> Want {
+fn untouched() -> Want
+    ensures { λ r. ⌜ (r .answer ≡ 1) × (r .skipped ≡ 0) × (r .vertices ≡ 9) × (r .corners ≡ 9) × (r .slots ≡ 0) ⌝ }
+{
     Want {
         answer: 1,
         skipped: 0,
@@ -383,7 +414,9 @@ fn untouched() -> Want {
 }
 
 // Any other refusal: both counts 0 and every slot blank. (A table without room is blank and untouched: slots 0.)
-fn refused(answer: u32) -> Want {
+fn refused(answer: u32) -> Want
+    ensures { λ r. ⌜ (r .answer ≡ answer) × (r .skipped ≡ 0) × (r .vertices ≡ 0) × (r .corners ≡ 0) × (r .slots ≡ 1) ⌝ }
+{
     Want {
         answer: answer,
         skipped: 0,
@@ -393,7 +426,9 @@ fn refused(answer: u32) -> Want {
     }
 }
 
-fn done(skipped: usize, vertices: u32, corners: u32) -> Want {
+fn done(skipped: usize, vertices: u32, corners: u32) -> Want
+    ensures { λ r. ⌜ (r .answer ≡ 0) × (r .skipped ≡ skipped) × (r .vertices ≡ vertices) × (r .corners ≡ corners) × (r .slots ≡ 2) ⌝ }
+{
     Want {
         answer: 0,
         skipped: skipped,
@@ -408,6 +443,7 @@ fn done(skipped: usize, vertices: u32, corners: u32) -> Want {
 // A point's number changed to a NaN or an infinity: 4.
 fn bad_number(k: usize, bits: u32) -> u32
     requires { ⌜ k < 12 ⌝ }
+    ensures { λ r. ⌜ r ≤ 1 ⌝ }
 {
     let faces = [0u32, 1, 2, 0, 2, 3];
     let mut points = [0.0f32; 12];
@@ -415,11 +451,13 @@ fn bad_number(k: usize, bits: u32) -> u32
     attempt(&points, &faces, refused(4))
 }
 
-fn bad_numbers(bits: u32) -> u32 {
+fn bad_numbers(bits: u32) -> u32
+    ensures { λ r. ⌜ r ≤ 12 ⌝ }
+{
     let mut bad: u32 = 0;
     let mut k: usize = 0;
     while k < 12 {
-        bad = plus(bad, bad_number(k, bits));
+        bad += bad_number(k, bits);
         k += 1;
     }
     bad
@@ -428,6 +466,7 @@ fn bad_numbers(bits: u32) -> u32 {
 // An index at the count, or above it: 2.
 fn bad_index(k: usize, index: u32) -> u32
     requires { ⌜ k < 6 ⌝ }
+    ensures { λ r. ⌜ r ≤ 1 ⌝ }
 {
     let mut faces = [0u32, 1, 2, 0, 2, 3];
     let points = [0.0f32; 12];
@@ -435,11 +474,13 @@ fn bad_index(k: usize, index: u32) -> u32
     attempt(&points, &faces, refused(2))
 }
 
-fn bad_indices(index: u32) -> u32 {
+fn bad_indices(index: u32) -> u32
+    ensures { λ r. ⌜ r ≤ 6 ⌝ }
+{
     let mut bad: u32 = 0;
     let mut k: usize = 0;
     while k < 6 {
-        bad = plus(bad, bad_index(k, index));
+        bad += bad_index(k, index);
         k += 1;
     }
     bad
@@ -506,7 +547,9 @@ fn meshes() -> u32 {
 }
 
 // No room for a point, and no slot to blank.
-fn refused_empty() -> Want {
+fn refused_empty() -> Want
+    ensures { λ r. ⌜ (r .answer ≡ 5) × (r .skipped ≡ 0) × (r .vertices ≡ 0) × (r .corners ≡ 0) × (r .slots ≡ 0) ⌝ }
+{
     Want {
         answer: 5,
         skipped: 0,
@@ -517,7 +560,9 @@ fn refused_empty() -> Want {
 }
 
 // Empty lists and no room: done, and no slot to write.
-fn done_empty() -> Want {
+fn done_empty() -> Want
+    ensures { λ r. ⌜ (r .answer ≡ 0) × (r .skipped ≡ 0) × (r .vertices ≡ 0) × (r .corners ≡ 0) × (r .slots ≡ 0) ⌝ }
+{
     Want {
         answer: 0,
         skipped: 0,
