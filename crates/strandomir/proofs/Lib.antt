@@ -1,0 +1,2 @@
+-- The law that the moves cite.
+pub mod Moves

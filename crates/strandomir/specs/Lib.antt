@@ -1,0 +1,2 @@
+-- The answers that C gets, against the definitions of the crates below.
+pub mod Told
