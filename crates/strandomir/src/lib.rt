@@ -1,7 +1,8 @@
 // The public face: every entry point, exported to C. Each takes any bytes, and none has a `requires`; what it answers and leaves is the
 // contract of the function that it calls, in C's terms. include/strandomir.h says the same for a caller in C.
 //
-// The six parts of a table, its counts and an answer's parts go as numbers: C knows no `Counts`, `Corner` or `Vertex`.
+// The parts of a table: the corners' vertices, opposites and marks (cv, co, cm), the vertices' corners, marks and points (vc, vm, vp). The
+// counts, a corner and a vertex go as numbers: C knows no `Counts`, `Corner` or `Vertex`.
 ghost use mathlib.Core.Path.{_≡_};
 ghost use mathlib.Core.Bool.{cond};
 ghost use Rattle.table.specs.Table.{table};
