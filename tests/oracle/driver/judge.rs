@@ -228,6 +228,12 @@ impl Judge {
         (0..t.corners).step_by(3).filter(|&first| t.corner_is_live(first) && holds(first)).count() > 2
     }
 
+    /// Would the Rust's two tests alone let a collapse through that a third face forbids?
+    pub fn only_third_face(&self, corner: u32) -> bool {
+        let tried = [COLLAPSE, corner, 0, 0, 0];
+        self.collapse_answer(tried) == 13 && is_topologically_safe(&self.rust, Probe::edge(corner))
+    }
+
     fn flip_answer(&self, command: Command) -> u32 {
         let corner = command[1];
         let target = self.target_answer(corner);

@@ -24,6 +24,11 @@ impl Memory {
         &self.0[GUARD..self.0.len() - GUARD]
     }
 
+    pub fn put(&mut self, index: usize, word: u32) {
+        assert!(index < self.len());
+        self.0[GUARD + index] = word;
+    }
+
     fn pointer(&mut self) -> *mut u32 {
         self.0[GUARD..].as_mut_ptr()
     }
