@@ -3,6 +3,7 @@
 //!     compare SEED CASES [FIRST]
 //!
 //! Case n of a seed is always the same, so the first difference can be tried alone: compare SEED 1 n.
+//! Case 999999 is slow and stands alone: 194,400 corners in the largest room.
 #![allow(dead_code)]
 
 mod damage;
@@ -31,6 +32,8 @@ struct Tally {
     moves: usize,
     checks: usize,
     damaged: usize,
+    third_faces: usize,
+    rules: [usize; 7],
     answers: [usize; 17],
 }
 
@@ -59,9 +62,12 @@ impl Tally {
             self.meshes, self.largest, self.commands, self.done, self.rings, self.moves, self.checks, self.damaged);
         let counted: Vec<String> = self.answers.iter().enumerate().map(|(k, n)| format!("{k}:{n}")).collect();
         println!("answers {}", counted.join(" "));
+        println!("broken rules {:?} (0 is none); {} collapses that only a third face forbids", self.rules, self.third_faces);
         println!("no difference");
     }
 }
+
+const HUGE: u64 = 999_999;
 
 struct Case<'a> {
     random: Random,
@@ -98,6 +104,9 @@ impl Case<'_> {
     /// Most meshes are small; some are a full patch, a few lie beyond.
     fn mesh(&mut self) -> Mesh {
         let random = &mut self.random;
+        if self.number == HUGE {
+            return meshes::huge(random);
+        }
         let mut mesh = match self.number % 1000 {
             7 | 507 => meshes::full_patch(random),
             250 if random.once_in(2) => meshes::beyond_a_patch(random),
@@ -110,6 +119,9 @@ impl Case<'_> {
 
     /// Room to grow, or little, or too little.
     fn rooms(&mut self, mesh: &Mesh) -> (usize, usize) {
+        if self.number == HUGE {
+            return (MOST_VERTICES, MOST_CORNERS);
+        }
         let random = &mut self.random;
         let (vertices, corners) = (mesh.points_count(), mesh.faces.len());
         match random.below(10) {
@@ -203,6 +215,7 @@ impl Case<'_> {
         let mut found = Memory::of(&[0x1111_1111, 0x2222_2222]);
         let ran = lent.run(&mut script, &mut found);
         let before = if judge.table.corners <= 60 { Some(judge.table.clone()) } else { None };
+        self.tally.third_faces += (command[0] == judge::COLLAPSE && judge.only_third_face(command)) as usize;
         let answer = judge.step(command);
         self.tally.commands += 1;
         self.tally.done += (answer == 0) as usize;
@@ -259,6 +272,7 @@ impl Case<'_> {
         let mut lent = Lent::of(table);
         let wanted = rules::check(table);
         self.tally.checks += 1;
+        self.tally.rules[wanted.rule as usize] += 1;
         self.count(wanted.answer);
         let what = || format!("check of {}", described(table));
         equal(&lent.check(), &wanted, what)?;

@@ -228,10 +228,9 @@ impl Judge {
         (0..t.corners).step_by(3).filter(|&first| t.corner_is_live(first) && holds(first)).count() > 2
     }
 
-    /// Would the Rust's two tests alone let a collapse through that a third face forbids?
-    pub fn only_third_face(&self, corner: u32) -> bool {
-        let tried = [COLLAPSE, corner, 0, 0, 0];
-        self.collapse_answer(tried) == 13 && is_topologically_safe(&self.rust, Probe::edge(corner))
+    /// Is this a collapse that only a third face forbids? The Rust's two tests would let it through.
+    pub fn only_third_face(&self, command: Command) -> bool {
+        self.collapse_answer(command) == 13 && is_topologically_safe(&self.rust, Probe::edge(command[1]))
     }
 
     fn flip_answer(&self, command: Command) -> u32 {
@@ -306,7 +305,8 @@ impl Judge {
         Listed { answer: 0, visited: visited as u32, written: entries.len() as u32 }
     }
 
-    fn rust_ring(&self, kind: usize, vertex: u32) -> Vec<u32> {
+    /// The Rust's own list.
+    pub fn rust_ring(&self, kind: usize, vertex: u32) -> Vec<u32> {
         let mut list = Vec::new();
         let vertex = Probe::vertex(vertex);
         match kind {
@@ -344,6 +344,32 @@ impl Judge {
             count = visit(corner)?;
         }
         Some(count)
+    }
+
+    /// Would the Rust's release build list a ring, though its walk is tangled? It looks at no mark and counts no visits; it panics past
+    /// the corners, and is not asked where it would run for ever.
+    pub fn rust_lists_anyway(&self, start: u32) -> bool {
+        let used = self.table.used_corners() as u32;
+        let across = |corner: u32| if corner < used { Some(self.table.opposite(corner)) } else { None };
+        for (turn, may_close) in [(next as fn(u32) -> u32, true), (previous, false)] {
+            let mut corner = start;
+            let mut steps = 0;
+            loop {
+                match across(corner).and_then(|_| across(turn(corner))) {
+                    None => return false,
+                    Some(ABSENT) => break,
+                    Some(over) => corner = if over < used { turn(over) } else { return false },
+                }
+                if may_close && corner == start {
+                    return true;
+                }
+                steps += 1;
+                if steps > used {
+                    return false;
+                }
+            }
+        }
+        true
     }
 
     /// The opposite of a live corner: `Some(None)` where it is absent, `None` where it is not live.

@@ -1,4 +1,4 @@
-//! Makes the stored list of the Rust's answers:  list FILE COMMIT
+//! Makes the stored list of the Rust's answers:  list FILE
 //!
 //! Made anew it is the same, byte for byte. The maker fails unless every answer occurs ten times.
 #![allow(dead_code)]
@@ -18,6 +18,8 @@ use random::Random;
 use recorder::Recorder;
 use table::*;
 
+/// Which text of the Rust it is; tests/oracle/rust.sha256 holds it to that.
+const RUST_COMMIT: &str = "6175820ed0";
 const SEED: u64 = 8;
 const RANDOM_MESHES: u64 = 300;
 const HEAD_BYTES: usize = 1024;
@@ -30,8 +32,7 @@ const MINUS_INFINITY: u32 = 0xff80_0000;
 const NAN: u32 = 0x7fc0_0000;
 
 fn main() {
-    let arguments: Vec<String> = std::env::args().skip(1).collect();
-    let [file, commit] = &arguments[..] else { panic!("list FILE COMMIT") };
+    let file = std::env::args().nth(1).expect("list FILE");
     let mut list = Recorder::new();
     worked_examples(&mut list);
     bad_builds(&mut list);
@@ -44,15 +45,15 @@ fn main() {
     for (answer, &times) in list.answers.iter().enumerate() {
         assert!(times >= 10, "answer {answer} occurs only {times} times");
     }
-    let mut bytes = head(commit);
+    let mut bytes = head();
     bytes.extend(list.words.iter().flat_map(|word| word.to_le_bytes()));
     assert!(bytes.len() <= MOST_BYTES, "{} bytes are too many", bytes.len());
-    std::fs::write(file, &bytes).expect("the file can be written");
+    std::fs::write(&file, &bytes).expect("the file can be written");
     println!("{} bytes; answers {:?}", bytes.len(), list.answers);
 }
 
-fn head(commit: &str) -> Vec<u8> {
-    let text = format!("Answers of the Rust library baby_shark (commit {commit}) on small meshes, with document 01's refusals around them.\n\
+fn head() -> Vec<u8> {
+    let text = format!("Answers of the Rust library baby_shark (commit {RUST_COMMIT}) on small meshes, with document 01's refusals around them.\n\
         Made by tests/oracle/driver/list.rs with the command `tests/oracle/list FILE`, seed {SEED}, {RANDOM_MESHES} random meshes;\n\
         made anew it is the same. The Rust did every build, edit, collapse test, ring and move; R1 to R6 and all answers but 2 and 13's\n\
         count and 11's test of a collapse come from document 01. Checked first: the worked examples come out as document 01 prints them.\n\n\
@@ -482,7 +483,7 @@ fn third_face_in(random: &mut Random, mesh: &Mesh) -> Option<(Vec<judge::Command
     let mut judge = Judge::of(table);
     let mut script = Vec::new();
     for _ in 0..6 {
-        let unsafe_corner = (0..judge.table.corners).find(|&corner| judge.only_third_face(corner));
+        let unsafe_corner = (0..judge.table.corners).find(|&corner| judge.only_third_face(command(COLLAPSE, corner)));
         if let Some(corner) = unsafe_corner {
             return Some((script, command(COLLAPSE, corner)));
         }

@@ -18,7 +18,6 @@ impl Mesh {
         Mesh { points: numbers, faces: faces.concat() }
     }
 
-    /// As many vertices and corners as a build can at most need: one vertex for each corner.
     pub fn points_count(&self) -> usize {
         self.points.len() / 3
     }
@@ -153,6 +152,12 @@ pub fn full_patch(random: &mut Random) -> Mesh {
 pub fn beyond_a_patch(random: &mut Random) -> Mesh {
     let (width, height, around) = (random.within(40, 60) as u32, random.within(40, 60) as u32, random.once_in(2));
     let shape = grid(random, width, height, around);
+    finish(random, shape)
+}
+
+/// Nearly all that the largest room holds.
+pub fn huge(random: &mut Random) -> Mesh {
+    let shape = grid(random, 180, 180, false);
     finish(random, shape)
 }
 
