@@ -390,7 +390,8 @@ fn short(words: &[u32]) -> String {
 
 /// The used slots of a table.
 fn described(t: &Table) -> String {
-    let mut text = format!("a table of {} vertices (room {}), {} corners (room {})", t.vertices, t.vertex_room(), t.corners, t.corner_room());
+    let rooms = (t.vertex_room(), t.corner_room());
+    let mut text = format!("a table of {} vertices (room {}), {} corners (room {})", t.vertices, rooms.0, t.corners, rooms.1);
     for part in 0..6 {
         let used = if part < 3 { t.corners as usize } else { t.vertices as usize * if part == VERTEX_POINT { 3 } else { 1 } };
         text += &format!("\n    {} {}", PART_NAMES[part], short(&t.parts[part][..used.min(t.parts[part].len())]));

@@ -37,6 +37,13 @@ pub fn build(table: &mut Table, points: &[u32], faces: &[u32]) -> Built {
     Built { answer, vertices: table.vertices, corners: table.corners, skipped }
 }
 
+/// A build by the Rust alone, with no refusal of ours.
+pub fn rust_alone(table: &mut Table, points: &[u32], faces: &[u32]) {
+    let points = points.chunks_exact(3).map(|point| numbers(point).into());
+    let rust = Rust::from_vertex_and_face_iters(points, faces.iter().map(|&v| v as usize));
+    take_slots(table, &rust);
+}
+
 /// The Rust's table and how many faces it skipped, or the refusal.
 fn made(vertex_room: usize, corner_room: usize, points: &[u32], faces: &[u32]) -> Result<(Rust, usize), u32> {
     let count = points.len() / 3;
@@ -157,6 +164,12 @@ impl Judge {
             take_slots(&mut self.table, &self.rust);
         }
         answer
+    }
+
+    /// The Rust's edit without any refusal of ours: it may panic, or leave a table that is not well-formed.
+    pub fn edit_unasked(&mut self, command: Command) {
+        self.edit(command);
+        take_slots(&mut self.table, &self.rust);
     }
 
     /// What a command answers on a well-formed table.

@@ -53,12 +53,14 @@ fn main() {
 }
 
 fn head() -> Vec<u8> {
-    let text = format!("Answers of the Rust library baby_shark (commit {RUST_COMMIT}) on small meshes, with document 01's refusals around them.\n\
+    let text = format!("\
+        Answers of the Rust library baby_shark (commit {RUST_COMMIT}) on small meshes, with document 01's refusals around them.\n\
         Made by tests/oracle/driver/list.rs with the command `tests/oracle/list FILE`, seed {SEED}, {RANDOM_MESHES} random meshes;\n\
-        made anew it is the same. The Rust did every build, edit, collapse test, ring and move; R1 to R6 and all answers but 2 and 13's\n\
-        count and 11's test of a collapse come from document 01. Checked first: the worked examples come out as document 01 prints them.\n\n\
-        After these {HEAD_BYTES} bytes come little-endian words of 32 bits, in records: op, n, and n words. Ops: 1 rooms, 2 counts, 3 put,\n\
-        4 build, 5 check, 6 run, 7 ring, 8 move, 9 slots; crates/vectors tells how each is replayed.\n");
+        made anew it is the same. The Rust itself did every build, edit, ring and move, refused an index that is too large (2), and gave\n\
+        both tests of a collapse (11, and the count of 13). R1 to R6 and all other refusals are document 01's. The worked examples came\n\
+        out as document 01 prints them.\n\n\
+        After these {HEAD_BYTES} bytes come little-endian words of 32 bits, in records: op, n, and n words. Ops: 1 rooms, 2 counts,\n\
+        3 put, 4 build, 5 check, 6 run, 7 ring, 8 move, 9 slots; crates/vectors tells how each is replayed.\n");
     let mut bytes = text.into_bytes();
     assert!(bytes.is_ascii() && bytes.len() < HEAD_BYTES);
     bytes.resize(HEAD_BYTES - 1, b' ');
@@ -341,7 +343,8 @@ fn largest_rooms(list: &mut Recorder) {
     list.check();
     assert_eq!(list.run(&[command(SPLIT_FACE, 3), command(COLLAPSE, 0)])[0], 0);
     list.slots();
-    for (vertices, corners) in [(vertices + 1, corners), (vertices, corners + 1), (vertices, corners + 3), (vertices + 1, 0), (0, corners + 1)] {
+    let above = [(vertices + 1, corners), (vertices, corners + 1), (vertices, corners + 3), (vertices + 1, 0), (0, corners + 1)];
+    for (vertices, corners) in above {
         in_rooms(list, &meshes::a(), lengths(vertices, corners), 1);
         list.check();
         list.run(&[command(FLIP, 0)]);

@@ -123,7 +123,8 @@ impl Recorder {
     pub fn slots(&mut self) {
         let mut words = Vec::new();
         for part in 0..6 {
-            let all: Vec<u32> = self.table.parts[part].iter().map(|&word| if part == VERTEX_POINT { one_nan(word) } else { word }).collect();
+            let one = |&word: &u32| if part == VERTEX_POINT { one_nan(word) } else { word };
+            let all: Vec<u32> = self.table.parts[part].iter().map(one).collect();
             let rest = all.last().copied().unwrap_or(0);
             let told = all.iter().rposition(|&word| word != rest).map_or(0, |last| last + 1);
             words.extend([rest, told as u32]);

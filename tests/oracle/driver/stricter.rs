@@ -59,5 +59,6 @@ fn tell(judge: &Judge) {
     let answer = judge.ring(0, 0, &mut [0; 32]).answer;
     let t = &judge.table;
     let list = if judge.rust_lists_anyway(0) && !cfg!(debug_assertions) { judge.rust_ring(0, 0) } else { vec![] };
-    println!("opposites {:?}, marks {:?}: answer {answer}; the Rust lists corners {list:?}", t.parts[CORNER_OPPOSITE], t.parts[CORNER_MARK]);
+    let (opposites, marks) = (&t.parts[CORNER_OPPOSITE], &t.parts[CORNER_MARK]);
+    println!("opposites {opposites:?}, marks {marks:?}: answer {answer}; the Rust lists corners {list:?}");
 }
