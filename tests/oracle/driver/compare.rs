@@ -93,10 +93,14 @@ impl Case<'_> {
         if built.answer == 0 {
             self.on_table(table)?;
         }
+        if self.random.once_in(2) {
+            let tangled = damage::tangle(&mut self.random);
+            self.on_damaged(tangled)?;
+        }
         if self.random.once_in(8) {
-            let mut soil = self.patterned(self.number as usize % 7, self.number as usize % 11);
-            damage::damage(&mut self.random, &mut soil);
-            self.on_damaged(soil)?;
+            let mut garbage = self.patterned(self.number as usize % 7, self.number as usize % 11);
+            damage::damage(&mut self.random, &mut garbage);
+            self.on_damaged(garbage)?;
         }
         Ok(())
     }
@@ -110,6 +114,7 @@ impl Case<'_> {
         let mut mesh = match self.number % 1000 {
             7 | 507 => meshes::full_patch(random),
             250 if random.once_in(2) => meshes::beyond_a_patch(random),
+            n if n % 200 == 53 => meshes::crowded(random),
             n if n % 100 == 3 => meshes::any_mesh(random, 12),
             _ => meshes::any_mesh(random, 4),
         };

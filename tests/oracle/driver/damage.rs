@@ -4,8 +4,11 @@ use crate::meshes::NOT_FINITE;
 use crate::random::Random;
 use crate::table::*;
 
-/// Changes one to four slots or counts.
+/// Changes one to four slots or counts, or breaks one rule in two ways.
 pub fn damage(random: &mut Random, table: &mut Table) {
+    if random.once_in(8) && table.corners > 0 && table.used_vertices() > 0 {
+        return break_twice(random, table);
+    }
     let times = if random.once_in(2) { 1 } else { random.within(2, 4) };
     for _ in 0..times {
         damage_once(random, table);
@@ -25,6 +28,45 @@ fn damage_once(random: &mut Random, table: &mut Table) {
             damage_slot(random, table, part);
         }
     }
+}
+
+/// Two of the ways to break R2, or R3, or R5: the checker has an order for them.
+fn break_twice(random: &mut Random, table: &mut Table) {
+    let corner = random.below(table.used_corners().max(1));
+    let vertex = random.below(table.used_vertices());
+    let other = random.below(table.used_corners().max(1));
+    match random.below(5) {
+        0 => { set(table, CORNER_MARK, corner, 1); set(table, VERTEX_MARK, vertex, 2); }
+        1 => { set(table, CORNER_MARK, corner, 2); set(table, VERTEX_MARK, vertex, 3); }
+        2 => { set(table, CORNER_MARK, corner, 1); set(table, CORNER_MARK, other, 2); }
+        3 => {
+            let beside = table.parts[CORNER_VERTEX].get(next(corner as u32) as usize).copied().unwrap_or(0);
+            set(table, CORNER_VERTEX, corner, beside);
+            let unused = table.vertices;
+            set(table, CORNER_VERTEX, other, unused);
+        }
+        _ => { unpair(random, table); set(table, VERTEX_CORNER, vertex, other as u32); }
+    }
+}
+
+fn set(table: &mut Table, part: usize, slot: usize, value: u32) {
+    if let Some(word) = table.parts[part].get_mut(slot) {
+        *word = value;
+    }
+}
+
+/// A few faces whose opposites are any corners: most walks are tangled, some just end.
+pub fn tangle(random: &mut Random) -> Table {
+    let corners = 3 * random.within(1, 3);
+    let mut table = Table::with_room(corners, corners, BLANK);
+    for c in 0..corners {
+        let opposite = random.below(corners) as u32;
+        table.parts[CORNER_OPPOSITE][c] = random.pick(&[opposite, opposite, ABSENT]);
+        table.parts[CORNER_VERTEX][c] = random.below(corners) as u32;
+        table.parts[VERTEX_CORNER][c] = c as u32;
+    }
+    (table.vertices, table.corners) = (corners as u32, corners as u32);
+    table
 }
 
 fn near(random: &mut Random, count: u32, room: usize) -> u32 {

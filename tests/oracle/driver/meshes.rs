@@ -81,10 +81,10 @@ fn bipyramid(sides: u32) -> Shape {
     Shape { vertices: sides + 2, faces }
 }
 
-/// Some fans, each open or closed, all at vertex 0.
-fn fans(random: &mut Random) -> Shape {
+/// So many fans, each open or closed, all at vertex 0.
+fn fans(random: &mut Random, count: usize) -> Shape {
     let mut shape = Shape { vertices: 1, faces: Vec::new() };
-    for _ in 0..random.within(1, 4) {
+    for _ in 0..count {
         let sides = random.within(1, 6) as u32;
         let first = shape.vertices;
         let closed = sides > 2 && random.once_in(2);
@@ -123,7 +123,10 @@ fn any_shape(random: &mut Random, side: u32) -> Shape {
         4 => tetrahedron(),
         5 => pillow(),
         6 => bipyramid(width + 1),
-        7 => fans(random),
+        7 => {
+            let count = random.within(1, 4);
+            fans(random, count)
+        }
         8 => strip(width * 2),
         _ => any_faces(random),
     }
@@ -138,6 +141,14 @@ pub fn any_mesh(random: &mut Random, side: u32) -> Mesh {
         let other = any_shape(random, side);
         join(random, &mut shape, other);
     }
+    spoil_faces(random, &mut shape);
+    finish(random, shape)
+}
+
+/// One vertex with very many faces, or with very many fans.
+pub fn crowded(random: &mut Random) -> Mesh {
+    let count = random.within(50, 300);
+    let mut shape = if random.once_in(2) { bipyramid(count as u32) } else { fans(random, count) };
     spoil_faces(random, &mut shape);
     finish(random, shape)
 }
@@ -247,7 +258,8 @@ pub fn spoil_input(random: &mut Random, mesh: &mut Mesh, times: usize) {
             mesh.faces[face + random.below(3)] = mesh.faces[face]; // 3, often
         }
         _ if !mesh.points.is_empty() => {
-            let at = place(random, &mesh.points);
+            let (any, last) = (place(random, &mesh.points), mesh.points.len() - 1);
+            let at = random.pick(&[0, any, any, last]);
             mesh.points[at] = random.pick(&NOT_FINITE); // 4
         }
         _ => {}
