@@ -284,12 +284,12 @@ impl Case<'_> {
         same_table(&lent, table, what)
     }
 
-    /// Every kind around every vertex (of a large table: some), and around vertices that are none.
+    /// Every kind around every vertex (of a huge table: some), and around vertices that are none.
     fn rings(&mut self, judge: &Judge) -> Same {
         let mut lent = Lent::of(&judge.table);
         let used = judge.table.used_vertices();
         for vertex in 0..used as u32 {
-            if used < 200 || self.random.once_in(used / 50) {
+            if used < 10_000 || self.random.once_in(used / 50) {
                 self.five_rings(judge, &mut lent, vertex)?;
             }
         }
@@ -300,8 +300,8 @@ impl Case<'_> {
     }
 
     fn five_rings(&mut self, judge: &Judge, lent: &mut Lent, vertex: u32) -> Same {
+        let mut wide = vec![0; judge.table.used_corners() + 2];
         for kind in 0..5 {
-            let mut wide = vec![0x6666_6666; judge.table.used_corners() + 2];
             let needed = judge.ring(kind, vertex, &mut wide).written as usize;
             let length = match self.random.below(6) {
                 0 => needed.saturating_sub(1),
