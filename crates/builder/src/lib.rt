@@ -156,8 +156,7 @@ pub fn build(
     let room = vm.len();
     let count = points.len() / 3;
     let blank = clear(cv, co, cm, vc, vm, vp);
-    let finite = builder_faces::all_finite(points);
-    let a = refusal(room < count, !finite);
+    let a = refusal(room < count, !builder_faces::all_finite(points));
     if a != 0 {
         return Built {
             answer: a,
