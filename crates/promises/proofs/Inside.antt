@@ -73,7 +73,13 @@ module _ (t : Table) (Z : Shaped t) (W : WellFormed t) where
         by-end (lefts .ends) (side-is (Live t) co (t .corners) true c lefts) (side-is (Live t) co (t .corners) false c rights) (corner-healthy t Z W c h)
 
   untangled : Untangled t
-  untangled = record { lists = never-15 t Z W; walks = corner-calm t Z W; rings = ring-walk }
+  untangled =
+      record {
+        lists = never-15 t Z W;
+        starts = λ c h. (L .face c h, W .cornerLive (vertex t c) (W .vertexLive c h));
+        walks = corner-calm t Z W;
+        rings = ring-walk;
+      }
 
   -- ---- the four kinds
 

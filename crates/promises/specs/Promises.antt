@@ -6,11 +6,11 @@ use mathlib.Core.Logic.{_≢_}
 use mathlib.Core.List.{List, List·Memᴰ}
 use lib.Ieee.{Float}
 use lib.ListN.{length, getD}
-use Rattle.corner.specs.Corner.{absent, previous, firstCorner}
+use Rattle.corner.specs.Corner.{absent, next, previous, firstCorner}
 use Rattle.corner.specs.declared.Corner.{Corner}
 use Rattle.corner.specs.declared.Face.{Face}
 use Rattle.vertex.specs.declared.Point.{Point}
-use Rattle.table.specs.Table.{Table, Shaped, cornerRoom, vertexRoom, opposite, corner, Live}
+use Rattle.table.specs.Table.{Table, Shaped, cornerRoom, vertexRoom, vertex, opposite, corner, Live}
 use Rattle.table.specs.Rules.{WellFormed}
 use Rattle.ring.specs.Ring.{ring}
 use Rattle.traversal.specs.declared.Kind.{Kind}
@@ -76,10 +76,12 @@ Listed = (t : Table) (e : Edit) → answer t e ≤ 14
 
 -- ---- "No walk inside a run is tangled; no index inside a run is out of range."
 
--- No walk is tangled: no ring list of the table answers 15, and from a live corner the walk never tangles. The edits walk by opposites alone,
--- and that ring is what the walk visits.
+-- No walk is tangled: no ring list of the table answers 15, and from a live corner the walk never tangles. The commands walk by opposites
+-- alone, and that ring is what the walk visits. They begin at a live corner, also one that is refused: at a corner of the target's face, or at
+-- the corner of such a corner's vertex.
 pub record Untangled (t : Table) : Type 0 where
   pub lists : (kind : Kind) (v : ℕ) (list : List ℕ) → ringOf kind v t list .answer ≢ 15
+  pub starts : (c : ℕ) → Live t c → Live t (next c) × Live t (corner t (vertex t c))
   pub walks : (c : ℕ) → Live t c → walk (t .cornerOpposite) (t .cornerMark) (t .corners) c ≢ tangled
   pub rings : (c : ℕ) → Live t c → ring (t .cornerOpposite) (t .corners) c ≡ visits (walk (t .cornerOpposite) (t .cornerMark) (t .corners) c)
 
