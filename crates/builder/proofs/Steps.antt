@@ -1,11 +1,11 @@
 -- The steps of a call, put together to the build. Assumes nothing.
 use mathlib.Core.Path.{_≡_, refl, ap, sym, _∙_, subst}
-use mathlib.Core.Bool.{Bool, true, false, cond, _&&_}
+use mathlib.Core.Bool.{Bool, true, false, cond, not, _&&_}
 use mathlib.Core.List.{List, _++_}
 use Prim.Native.Nat.{ℕ, zero, suc, _+_, _-_, _*_, _≤_, _<_, _%_, _/_}
 use native.Mathlib.Omega.{arith}
 use native.Mathlib.Nat.{sub-zero}
-use borrow.Author.Tests.{eq-eqb, ne-eqb, lt-ltb, le-ltb}
+use borrow.Author.Tests.{eq-eqb, ne-eqb, lt-ltb, le-ltb, ltb-false}
 use lib.Dec.{eqb, ltb}
 use lib.Ieee.{Float}
 use lib.ListN.{length, getD, drop, replicate, length-replicate}
@@ -180,15 +180,32 @@ module _ (cv co cm vc vm : List ℕ) (vp ps : List Float) (fs : List ℕ) (nv nc
           made-blank (length cm) (length vm) a cv co cm vc vm cv′ co′ cm′ vc′ vm′ vp vp′ n B (S .cornerVertexRoom) (S .cornerOppositeRoom) refl
           (S .vertexCornerRoom) refl (S .vertexPointRoom)
 
-      pub build-over : length vm < length ps / 3 → outcome 5 0 cv′ co′ cm′ vc′ vm′ vp′ (n .vertices) (n .corners) ≡ build (table cv co cm vc vm vp nv nc) ps fs
-      unfolding build
-      build-over h = none 5 ∙ rw (← is, y, eq-eqb (length ps % 3) 0 z, lt-ltb (length vm) (length ps / 3) h)
+      -- 5, then 4
+      module _ (t : Bool) (fin : t ≡ allFinite ps) (a : ℕ) (met : a ≡ cond (ltb (length vm) (length ps / 3)) 5 (cond (not t) 4 0)) where
+        pub build-refused : (a ≡ 0 → ⊥) → outcome a 0 cv′ co′ cm′ vc′ vm′ vp′ (n .vertices) (n .corners) ≡ build (table cv co cm vc vm vp nv nc) ps fs
+        unfolding build
+        build-refused k = none a ∙ by (ltb (length vm) (length ps / 3)) t met k ∙ rw (← is, y, eq-eqb (length ps % 3) 0 z, ← fin)
+          where
+            by : (over finite : Bool) → a ≡ cond over 5 (cond (not finite) 4 0) → (a ≡ 0 → ⊥)
+                → refused (length cm) (length vm) a
+                ≡ cond over (refused (length cm) (length vm) 5)
+                (cond finite (finish (length cm) (length vm) (length ps / 3) ps (faces (length ps / 3) (length cm) (start (length cm) (length vm)) fs))
+                (refused (length cm) (length vm) 4))
+            by true f e k = rw e
+            by false true e k = absurd (k e)
+            by false false e k = rw e
+
+        -- neither
+        pub build-passed : a ≡ 0 → (length ps / 3 ≤ length vm) × (t ≡ true)
+        build-passed e = by (ltb (length vm) (length ps / 3)) refl t refl (sym met ∙ e)
+          where
+            by : (over : Bool) → ltb (length vm) (length ps / 3) ≡ over → (finite : Bool) → t ≡ finite → _≡_ {A = ℕ} (cond over 5 (cond (not finite) 4 0)) 0
+                → (length ps / 3 ≤ length vm) × (t ≡ true)
+            by true p f q h = absurd (omega (arith, h))
+            by false p true q h = (ltb-false _ _ p, q)
+            by false p false q h = absurd (omega (arith, h))
 
       module _ (h : length ps / 3 ≤ length vm) (t : Bool) (fin : t ≡ allFinite ps) where
-        pub build-infinite : t ≡ false → outcome 4 0 cv′ co′ cm′ vc′ vm′ vp′ (n .vertices) (n .corners) ≡ build (table cv co cm vc vm vp nv nc) ps fs
-        unfolding build
-        build-infinite e = none 4 ∙ rw (← is, y, eq-eqb (length ps % 3) 0 z, le-ltb (length vm) (length ps / 3) h, ← fin, e)
-
         pub build-fresh : Fresh cv′ co′ cm′ vc′ vm′ vp′ ps (length cm) (length vm) (length ps / 3)
         build-fresh =
             record {

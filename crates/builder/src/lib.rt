@@ -1,5 +1,6 @@
 // builder.rs: a table from points and faces, in lent memory.
 ghost use mathlib.Core.Path.{_≡_};
+ghost use mathlib.Core.Bool.{cond};
 ghost use mathlib.Core.List.{List};
 ghost use lib.Ieee.{Float};
 ghost use lib.ListN.{length};
@@ -109,6 +110,19 @@ fn add_all(
     finish(cv, co, cm, vc, vm, vp, r.corners, count, room, r.skipped)
 }
 
+// More points than room, 5, before a point not finite, 4; or 0.
+fn refusal(over: bool, infinite: bool) -> u32
+    ensures { λ r. ⌜ r ≡ cond over 5 (cond infinite 4 0) ⌝ }
+{
+    if over {
+        return 5;
+    }
+    if infinite {
+        return 4;
+    }
+    0
+}
+
 // Builds the table in the six lent parts. The counts are those of the table that was there; they come back where nothing is written.
 pub fn build(
     cv: &mut [u32],
@@ -142,16 +156,10 @@ pub fn build(
     let room = vm.len();
     let count = points.len() / 3;
     let blank = clear(cv, co, cm, vc, vm, vp);
-    if count > room {
+    let a = refusal(room < count, !builder_faces::all_finite(points));
+    if a != 0 {
         return Built {
-            answer: 5,
-            skipped: 0,
-            counts: blank,
-        };
-    }
-    if !builder_faces::all_finite(points) {
-        return Built {
-            answer: 4,
+            answer: a,
             skipped: 0,
             counts: blank,
         };

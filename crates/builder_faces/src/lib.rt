@@ -195,24 +195,37 @@ fn set_vertices(cv: &mut [u32], n: u32, a: u32, b: u32, c: u32)
     table::put(cv, i + 2, c);
 }
 
-// Each new corner and the one whose edge runs the other way, if there is one.
+// A corner and the one whose edge runs the other way, if there is one: each is the other's opposite.
+fn pair(co: &mut [u32], c: u32, o: u32)
+    ensures { λ r. ⌜ now (co .exit) ≡ paired (now (co .entry)) c o ⌝ }
+{
+    table::make_corners_opposite(co, Corner(c), Corner(o));
+}
+
+// Each new corner with its mate.
 fn set_opposites(co: &mut [u32], n: u32, cb: u32, ac: u32, ba: u32)
     requires { ⌜ n + 3 < 4294967296 ⌝ }
     ensures { λ r. ⌜ now (co .exit) ≡ paired (paired (paired (now (co .entry)) n cb) (n + 1) ac) (n + 2) ba ⌝ }
 {
-    table::make_corners_opposite(co, Corner(n), Corner(cb));
-    table::make_corners_opposite(co, Corner(n + 1), Corner(ac));
-    table::make_corners_opposite(co, Corner(n + 2), Corner(ba));
+    pair(co, n, cb);
+    pair(co, n + 1, ac);
+    pair(co, n + 2, ba);
 }
 
 // A vertex's corner is the last one made for it.
+fn make_last(vc: &mut [u32], v: u32, c: u32)
+    ensures { λ r. ⌜ now (vc .exit) ≡ set (now (vc .entry)) v c ⌝ }
+{
+    table::put(vc, v as usize, c);
+}
+
 fn set_corners(vc: &mut [u32], n: u32, a: u32, b: u32, c: u32)
     requires { ⌜ n + 3 < 4294967296 ⌝ }
     ensures { λ r. ⌜ now (vc .exit) ≡ set (set (set (now (vc .entry)) a n) b (n + 1)) c (n + 2) ⌝ }
 {
-    table::put(vc, a as usize, n);
-    table::put(vc, b as usize, n + 1);
-    table::put(vc, c as usize, n + 2);
+    make_last(vc, a, n);
+    make_last(vc, b, n + 1);
+    make_last(vc, c, n + 2);
 }
 
 pub struct Added {

@@ -134,14 +134,14 @@ pub fn split_face_answer(cm: &[u32], vroom: usize, counts: Counts, f: Face, p: P
     ensures { λ r. ⌜ ((cv co vc vm : List ℕ) (vp : List Float) → length vm ≡ vroom →
         r ≡ splitFaceAnswer (table cv co (now (cm .entry)) vc vm vp (counts .vertices) (counts .corners)) (f .0) p) ⌝ }
 {
-    let a = targeted(
+    let t = targeted(
         f.0 < counts.corners / 3,
         table::at(cm, 3 * (f.0 as usize), 1),
     );
     let good = p.finite();
     let b = when(!good, 4);
     let d = room_for(counts.vertices, vroom, counts.corners, cm.len(), 6);
-    first(a, first(b, d))
+    first(t, first(b, d))
 }
 
 // The rings are walked only where no cheaper check refuses.

@@ -1,21 +1,33 @@
 -- What is promised of a script on a well-formed table, over the definitions of the commands. The theorems are in
--- proofs/Promises.antt and proofs/Words.antt.
-use Prim.Native.Nat.{ℕ, _≤_, _<_}
+-- proofs/Promises.antt, proofs/Words.antt and proofs/Inside.antt.
+use Prim.Native.Nat.{ℕ, _+_, _≤_, _<_}
 use mathlib.Core.Path.{_≡_}
 use mathlib.Core.Logic.{_≢_}
-use mathlib.Core.List.{List}
+use mathlib.Core.List.{List, List·Memᴰ}
 use lib.Ieee.{Float}
 use lib.ListN.{length, getD}
-use Rattle.table.specs.Table.{Table, Shaped}
+use Rattle.corner.specs.Corner.{absent, next, previous, firstCorner}
+use Rattle.corner.specs.declared.Corner.{Corner}
+use Rattle.corner.specs.declared.Face.{Face}
+use Rattle.vertex.specs.declared.Point.{Point}
+use Rattle.table.specs.Table.{Table, Shaped, cornerRoom, vertexRoom, vertex, opposite, corner, Live}
 use Rattle.table.specs.Rules.{WellFormed}
+use Rattle.ring.specs.Ring.{ring}
+use Rattle.traversal.specs.declared.Kind.{Kind}
+use Rattle.traversal.specs.Walk.{tangled, walk, visits}
+use Rattle.traversal.specs.Ring.{ringOf}
 use Rattle.build.specs.Build.{build}
-use Rattle.keeps.specs.Keeps.{Kept}
+use Rattle.edit.specs.declared.Around.{Around}
+use Rattle.edit.specs.declared.Triangle.{Triangle}
+use Rattle.edit.specs.Plans.{around, triangle}
+use Rattle.keeps.specs.Keeps.{Kept, AroundUsed, TriangleUsed}
 use Rattle.command.specs.declared.Edit.{Edit}
+use Rattle.command.specs.declared.Edit.the-variants.{Collapse, Flip, SplitEdge, SplitFace}
 use Rattle.command.specs.Decode.{commandAt}
 use Rattle.command.specs.Answers.{answer}
 use Rattle.command.specs.Step.{step}
 use Rattle.step.specs.Stepped.{Stepped}
-use Rattle.script.specs.Run.{commands, Outcome}
+use Rattle.script.specs.Run.{commands, run, Outcome}
 
 -- Demand 3, after every command: whatever the script and the answer words, after the first k commands "the table is well-formed and V−E+F is
 -- what it was", and the lent parts have their lengths
@@ -61,3 +73,51 @@ OtherWords = (t : Table) (s answers : List ℕ) (n i : ℕ) → n ≤ i → getD
 -- no command answers 15, "tangled walk", nor any number after 14
 abbrev pub Listed : Type 0
 Listed = (t : Table) (e : Edit) → answer t e ≤ 14
+
+-- ---- "No walk inside a run is tangled; no index inside a run is out of range."
+
+-- No walk is tangled: no ring list of the table answers 15, and from a live corner the walk never tangles. The commands walk by opposites
+-- alone, and that ring is what the walk visits. They begin at a live corner, also one that is refused: at a corner of the target's face, or at
+-- the corner of such a corner's vertex.
+pub record Untangled (t : Table) : Type 0 where
+  pub lists : (kind : Kind) (v : ℕ) (list : List ℕ) → ringOf kind v t list .answer ≢ 15
+  pub starts : (c : ℕ) → Live t c → Live t (next c) × Live t (corner t (vertex t c))
+  pub walks : (c : ℕ) → Live t c → walk (t .cornerOpposite) (t .cornerMark) (t .corners) c ≢ tangled
+  pub rings : (c : ℕ) → Live t c → ring (t .cornerOpposite) (t .corners) c ≡ visits (walk (t .cornerOpposite) (t .cornerMark) (t .corners) c)
+
+-- what an edit reads of the two faces at an edge, or of one face, before it writes
+abbrev pub atEdge : Table → ℕ → Around
+atEdge t c = around (t .cornerVertex) (t .cornerOpposite) c
+
+abbrev pub ofFace : Table → ℕ → Triangle
+ofFace t c = triangle (t .cornerVertex) (t .cornerOpposite) c
+
+-- a ring that a command walks begins at a live corner, and all its corners are used
+pub record RingUsed (t : Table) (c : ℕ) : Type 0 where
+  pub begins : Live t c
+  pub visits : (d : ℕ) → List·Memᴰ d (ring (t .cornerOpposite) (t .corners) c) → d < t .corners
+
+-- the slots that are put on the end, one vertex and n corners, are within the room
+pub record EndFits (t : Table) (n : ℕ) : Type 0 where
+  pub vertices : t .vertices < vertexRoom t
+  pub corners : t .corners + n ≤ cornerRoom t
+
+-- No index of a command is out of range: the slots that it reads and writes are used, or are those on the end. A collapse walks the rings of
+-- the kept vertex (v2) and the deleted one (v0), an edge split that of the moved vertex (at c2).
+pub data InRange (t : Table) : Edit → Type 0 where
+  collapse : {c : Corner} {p : Point} → AroundUsed t (atEdge t (c .0)) → RingUsed t (corner t (atEdge t (c .0) .v2 .0))
+      → RingUsed t (corner t (atEdge t (c .0) .v0 .0)) → InRange t (Collapse c p)
+  flip : {c : Corner} → AroundUsed t (atEdge t (c .0)) → InRange t (Flip c)
+  splitBorder : {c : Corner} {p : Point} → opposite t (c .0) ≡ absent → TriangleUsed t (ofFace t (previous (c .0)))
+      → RingUsed t (ofFace t (previous (c .0)) .c2 .0) → EndFits t 3 → InRange t (SplitEdge c p)
+  splitInner : {c : Corner} {p : Point} → opposite t (c .0) ≢ absent → AroundUsed t (atEdge t (c .0))
+      → RingUsed t (atEdge t (c .0) .c2 .0) → EndFits t 6 → InRange t (SplitEdge c p)
+  splitFace : {f : Face} {p : Point} → TriangleUsed t (ofFace t (firstCorner (f .0))) → EndFits t 6 → InRange t (SplitFace f p)
+
+pub record Safe (t : Table) (e : Edit) : Type 0 where
+  pub untangled : Untangled t
+  pub inRange : answer t e ≡ 0 → InRange t e
+
+-- so at every command of a run that is not refused as a whole, on whatever table: the table before command k, and command k on it
+abbrev pub InsideRun : Type 0
+InsideRun = (t : Table) (s answers : List ℕ) → run t s answers .answer ≡ 0 → (k : ℕ) → Safe (commands s k 0 answers t .table) (commandAt s k)

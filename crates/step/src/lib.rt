@@ -32,9 +32,9 @@ fn flip(
         (table (now (cv .entry)) (now (co .entry)) (now (cm .entry)) (now (vc .entry)) vm vp (counts .vertices) (counts .corners)) (Flip c) r
         (table (now (cv .exit)) (now (co .exit)) (now (cm .entry)) (now (vc .exit)) vm vp (counts .vertices) (counts .corners))) ⌝ }
 {
-    let a = command::flip_answer(cv, co, cm, counts.corners, c);
-    if a != 0 {
-        return a;
+    let refusal = command::flip_answer(cv, co, cm, counts.corners, c);
+    if refusal != 0 {
+        return refusal;
     }
     edit::flip_edge(cv, co, vc, c);
     0

@@ -6,7 +6,7 @@ use mathlib.Core.Bool.{Bool, true, false, cond, _&&_, false≢true}
 use native.Mathlib.Omega.{arith}
 use native.Mathlib.Nat.{add-zero, zero-add, add-suc, suc-add}
 use native.Mathlib.Numerals.{add-one}
-use borrow.Author.Tests.{leb-true, le-leb, lt-leb, lt-ltb, le-ltb, eq-eqb, ne-eqb}
+use borrow.Author.Tests.{leb-true, leb-false, le-leb, lt-leb, lt-ltb, le-ltb, eq-eqb, ne-eqb}
 use lib.ListN.{length, getD, drop, set, length-map, length-append}
 use lib.Seq.{sets, sets-eq}
 use Rattle.table.specs.Slots.{markAt}
@@ -14,7 +14,7 @@ use lib.Dec.{leb}
 use Rattle.table.specs.Table.{Table, shaped, shapedBy, maxCorners, corner}
 use Rattle.traversal.specs.Walk.{faceLive, Side, side, Walk, tangled, closed, open′, leftOf, rightOf, afterLeft, afterRight, walk, visits}
 use Rattle.traversal.specs.Lists.{entry, twice, entries}
-use Rattle.traversal.specs.Ring.{Outcome, outcome, refused, listed, walked, usedCorners, usedVertices, walkOf, ringOf, counted}
+use Rattle.traversal.specs.Ring.{Outcome, outcome, refused, listed, walked, usedCorners, usedVertices, walkOf, ringOf, counted, needed, tooShort}
 use Rattle.traversal.proofs.Steps.{side-bound, face-used}
 use Rattle.traversal.specs.declared.Kind.{Kind}
 use Rattle.traversal.specs.declared.Counted.{Counted}
@@ -218,6 +218,20 @@ open-size kind cv c l r =
     length-append (map (entry kind cv true) (c ∷ l)) (map (entry kind cv false) (cond (twice kind) (c ∷ r) r))
     ∙ omega (arith, length-map (c ∷ l) (entry kind cv true), length-map (cond (twice kind) (c ∷ r) r) (entry kind cv false), length-cond (twice kind) c r)
 
+-- room for as many entries as the counts say
+module _ (kind : Kind) (w : Counted) (n : ℕ) where
+  pub room-tangled : w ≡ Tangled → leb 1 n ≡ leb (needed kind w) n
+  room-tangled e = rw e
+
+  pub room-closed : (l : ℕ) → w ≡ Closed l → leb (l + 1) n ≡ leb (needed kind w) n
+  room-closed l e = rw e
+
+  pub room-open : (l r x : ℕ) → w ≡ Open l r → x ≡ cond (twice kind) 1 0 → leb (l + 1 + r + x) n ≡ leb (needed kind w) n
+  room-open l r x e h = rw (e, h)
+
+  pub has-room : (b : Bool) → b ≡ leb (needed kind w) n → b ≡ true → (v : Counted) → w ≡ v → needed kind v ≤ n
+  has-room b is on v e = leb-true (needed kind v) n (ap (λ (x : Counted). leb (needed kind x) n) (sym e) ∙ sym is ∙ on)
+
 module _ (kind : Kind) (cv opp mark : List ℕ) (used c : ℕ) (list : List ℕ) where
   pub answer-tangled : (r : Ring) → Refused r 15 → walk opp mark used c ≡ tangled → outcome r list ≡ walked kind cv (walk opp mark used c) list
   answer-tangled r h e = rw e (refusal r list 15 h)
@@ -277,6 +291,14 @@ module _ (kind : Kind) (cv opp mark : List ℕ) (used c : ℕ) (list : List ℕ)
         (omega (arith, k .count, k .count′))
         (omega (arith, k .count, k .count′))
         all)
+
+  -- 15, 16
+  pub answer-short : (w : Counted) → w ≡ counted (walk opp mark used c) → leb (needed kind w) (length list) ≡ false
+      → (a : ℕ) → a ≡ tooShort w → (r : Ring) → Refused r a → outcome r list ≡ walked kind cv (walk opp mark used c) list
+  answer-short Tangled h l a e r q = answer-tangled r (rw e at q) (was-tangled opp mark used c h)
+  answer-short (Closed n) h l a e r q = closed-short n (was-closed opp mark used c n h) r (rw e at q) (leb-false _ _ l)
+  answer-short (Open n m) h l a e r q =
+      open-short n m (cond (twice kind) 1 0) (was-open opp mark used c n m h) refl r (rw e at q) (leb-false _ _ l)
 
 -- ---- the order of the answers 1, 9, 10 and the rest
 

@@ -1,5 +1,5 @@
 -- What a ring call answers, counts and leaves. Document 01, "Ring lists and the walker": "Order: 1, 9, 10, 15, 16."
-use Prim.Native.Nat.{ℕ, min}
+use Prim.Native.Nat.{ℕ, _+_, min}
 use mathlib.Core.List.{List, _++_}
 use mathlib.Core.Bool.{cond}
 use lib.ListN.{length, drop}
@@ -7,7 +7,7 @@ use lib.Dec.{ltb, leb, eqb}
 use Rattle.table.specs.Slots.{markAt}
 use Rattle.table.specs.Table.{Table, cornerRoom, vertexRoom, shaped, corner}
 use Rattle.traversal.specs.Walk.{Walk, tangled, closed, open′, walk, visits}
-use Rattle.traversal.specs.Lists.{entries}
+use Rattle.traversal.specs.Lists.{twice, entries}
 use Rattle.traversal.specs.declared.Kind.{Kind}
 use Rattle.traversal.specs.declared.Ring.{Ring}
 use Rattle.traversal.specs.declared.Counted.{Counted}
@@ -63,3 +63,16 @@ abbrev pub counted : Walk → Counted
 counted tangled = Tangled
 counted (closed c l) = Closed (length l)
 counted (open′ c l r) = Open (length l) (length r)
+
+-- how many words of a list a walk takes, by its counts: one for each visit and, on a border, one more where the first corner has two. A
+-- tangled walk takes one at least
+abbrev pub needed : Kind → Counted → ℕ
+needed kind Tangled = 1
+needed kind (Closed l) = l + 1
+needed kind (Open l r) = l + 1 + r + cond (twice kind) 1 0
+
+-- the answer where the list has fewer: "15, 16"
+abbrev pub tooShort : Counted → ℕ
+tooShort Tangled = 15
+tooShort (Closed l) = 16
+tooShort (Open l r) = 16

@@ -6,6 +6,7 @@ ghost use mathlib.Core.Path.{_≡_};
 ghost use mathlib.Core.Bool.{true, cond};
 ghost use mathlib.Core.List.{map, _∷_};
 ghost use Prim.Native.Nat.{_<_, _≤_, min};
+ghost use lib.Dec.{leb};
 ghost use lib.ListN.{length};
 ghost use lib.Seq.{sets};
 ghost use Rattle.corner.specs.Corner.{absent};
@@ -13,7 +14,7 @@ ghost use Rattle.table.specs.Slots.{oppositeAt};
 ghost use Rattle.table.specs.Table.{table};
 ghost use Rattle.traversal.specs.Walk.{faceLive, across, swing, closes as closesOf, side, walk};
 ghost use Rattle.traversal.specs.Lists.{entry as entryOf, twice as twiceOf};
-ghost use Rattle.traversal.specs.Ring.{outcome, walked, ringOf, counted};
+ghost use Rattle.traversal.specs.Ring.{outcome, walked, ringOf, counted, needed, tooShort};
 ghost use Rattle.traversal.specs.declared.Counted.the-variants.{Closed, Open};
 ghost use Rattle.traversal.specs.declared.Kind.the-variants.{Corners, Vertices, Faces, Edges, BoundingEdges};
 use corner::Corner;
@@ -302,7 +303,7 @@ fn refused(answer: u32) -> Ring
     }
 }
 
-// The list of a closed ring with l corners after the first.
+// The list of a closed ring with l corners after the first; there is room for it.
 fn write_closed(
     kind: Kind,
     cv: &[u32],
@@ -315,13 +316,11 @@ fn write_closed(
 ) -> Ring
     requires { ⌜ used < absent ⌝ }
     requires { ⌜ Closed l ≡ counted (walk (now co) (now cm) used (start .0)) ⌝ }
+    requires { ⌜ needed kind (Closed l) ≤ length (now list) ⌝ }
     ensures { λ r. ⌜ outcome r (now (list .exit))
         ≡ walked kind (now (cv .entry)) (walk (now (co .entry)) (now (cm .entry)) used (start .0)) (now (list .entry)) ⌝ }
 {
     let n = l + 1;
-    if list.len() < n as usize {
-        return refused(16);
-    }
     write_part(kind, true, true, cv, co, cm, used, start, used - 1, list, 0);
     Ring {
         answer: 0,
@@ -337,7 +336,7 @@ fn extra(kind: Kind) -> u32
     if twice(kind) { 1 } else { 0 }
 }
 
-// The list of an open fan with l corners to the left of the first and r to its right.
+// The list of an open fan with l corners to the left of the first and r to its right; there is room for it.
 fn write_open(
     kind: Kind,
     cv: &[u32],
@@ -351,14 +350,12 @@ fn write_open(
 ) -> Ring
     requires { ⌜ used < absent ⌝ }
     requires { ⌜ Open l r ≡ counted (walk (now co) (now cm) used (start .0)) ⌝ }
+    requires { ⌜ needed kind (Open l r) ≤ length (now list) ⌝ }
     ensures { λ r. ⌜ outcome r (now (list .exit))
         ≡ walked kind (now (cv .entry)) (walk (now (co .entry)) (now (cm .entry)) used (start .0)) (now (list .entry)) ⌝ }
 {
     let seen = l + 1 + r;
     let m = seen + extra(kind);
-    if list.len() < m as usize {
-        return refused(16);
-    }
     write_part(kind, true, true, cv, co, cm, used, start, used - 1, list, 0);
     let both = twice(kind);
     let i = (l + 1) as usize;
@@ -382,6 +379,28 @@ fn write_open(
     }
 }
 
+// Whether a list of so many words has room for a walk's entries. A tangled walk, too, has a first one.
+fn has_room(kind: Kind, w: Counted, room: usize) -> bool
+    ensures { λ r. ⌜ r ≡ leb (needed kind w) room ⌝ }
+{
+    match w {
+        Counted::Tangled => 1 <= room,
+        Counted::Closed(l) => l as usize + 1 <= room,
+        Counted::Open(l, r) => l as usize + 1 + r as usize + extra(kind) as usize <= room,
+    }
+}
+
+// The answer where the list is too short: 16, but 15 goes before it.
+fn too_short(w: Counted) -> u32
+    ensures { λ r. ⌜ r ≡ tooShort w ⌝ }
+{
+    match w {
+        Counted::Tangled => 15,
+        Counted::Closed(_) => 16,
+        Counted::Open(_, _) => 16,
+    }
+}
+
 // The list of the walk that begins at start.
 fn ring_from(
     kind: Kind,
@@ -397,6 +416,9 @@ fn ring_from(
         ≡ walked kind (now (cv .entry)) (walk (now (co .entry)) (now (cm .entry)) used (start .0)) (now (list .entry)) ⌝ }
 {
     let w = count_walk(co, cm, used, start);
+    if !has_room(kind, w, list.len()) {
+        return refused(too_short(w));
+    }
     match w {
         Counted::Tangled => refused(15),
         Counted::Closed(l) => write_closed(kind, cv, co, cm, used, start, list, l),

@@ -2,20 +2,20 @@ use borrow.Author.Needs.{needs}
 use Rattle.builder_faces.proofs.set_corners.Statement.{statement}
 use Rattle.builder_faces.proofs.set_corners.Tie as tie
 
-put-requires : tie.Need-put-requires
-put-requires c κs = search needs
+make-last-requires : tie.Need-make-last-requires
+make-last-requires c κs = search needs
 
-add-put : tie.Need-add-put
-add-put c = search needs
+add-make-last : tie.Need-add-make-last
+add-make-last c = search needs
 
-put-requires-2 : tie.Need-put-requires-2
-put-requires-2 c κs = search needs
+make-last-requires-2 : tie.Need-make-last-requires-2
+make-last-requires-2 c κs = search needs
 
-add-put-2 : tie.Need-add-put-2
-add-put-2 c = search needs
+add-make-last-2 : tie.Need-add-make-last-2
+add-make-last-2 c = search needs
 
-put-requires-3 : tie.Need-put-requires-3
-put-requires-3 c κs = search needs
+make-last-requires-3 : tie.Need-make-last-requires-3
+make-last-requires-3 c κs = search needs
 
 same-length : tie.Need-same-length
 same-length c = search needs
@@ -26,4 +26,4 @@ returns c = cc
 pub set-corners-spec : {M : Type 1} → statement M
 set-corners-spec =
     tie.close
-    (tie.spec put-requires add-put put-requires-2 add-put-2 put-requires-3 same-length returns)
+    (tie.spec make-last-requires add-make-last make-last-requires-2 add-make-last-2 make-last-requires-3 same-length returns)

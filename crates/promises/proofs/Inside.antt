@@ -1,0 +1,177 @@
+-- No walk inside a run is tangled, and no index is out of range: each table of a run is well-formed. Assumes nothing.
+use Prim.Native.Nat.{ℕ, _+_, _/_, _≤_}
+use mathlib.Core.Path.{_≡_, refl}
+use mathlib.Core.Bool.{Bool, true, false, cond}
+use mathlib.Core.List.{List}
+use native.Mathlib.Omega.{arith}
+use native.Mathlib.Decide.{ℕ-discrete}
+use borrow.Author.Tests.{eq-eqb, ne-eqb, eqb-true}
+use lib.Dec.{eqb}
+use lib.ListN.{length}
+use Rattle.corner.specs.Corner.{absent, next, previous, firstCorner}
+use Rattle.vertex.specs.declared.Point.{Point}
+use Rattle.table.specs.Slots.{oppositeAt}
+use Rattle.table.specs.Table.{Table, Shaped, shaped, cornerRoom, vertexRoom, vertex, opposite, corner, Live}
+use Rattle.table.specs.Rules.{WellFormed}
+use Rattle.fan.proofs.Fan.{Linked, face-previous, swingL, swingR}
+use Rattle.fan.proofs.Walk.{it, Stop, border, closes, Walk}
+use Rattle.fan.proofs.Ring.{stuckL, stuckR}
+use Rattle.fan.proofs.Visits.{after, w, v, leftward, rightward}
+use Rattle.fan.proofs.Tables.{table-linked}
+use Rattle.ring.specs.Ring.{side, ring as ringOf}
+use Rattle.ring.proofs.Exact.{bordered, side-is}
+use Rattle.traversal.specs.Walk.{walk, visits}
+use Rattle.traversal.proofs.Sound.{never-15, corner-calm, corner-healthy, Healthy, ring, fan}
+use Rattle.edge_collapse.specs.EdgeCollapse.{affectsBoundary}
+use Rattle.edge_collapse.proofs.Paper.{inner}
+use Rattle.edit.specs.Plans.{around, triangle}
+use Rattle.keeps.specs.Keeps.{Kept}
+use Rattle.keeps.proofs.Used.{triangle-used, around-used, ring-used}
+use Rattle.checker.specs.Order.{verdictOf}
+use Rattle.checker.proofs.Judge.{verdict-sound}
+use Rattle.command.specs.declared.Edit.{Edit}
+use Rattle.command.specs.declared.Edit.the-variants.{Collapse, Flip, SplitEdge, SplitFace, Unknown}
+use Rattle.command.specs.Decode.{commandAt}
+use Rattle.command.specs.Answers.{collapseAnswer, flipAnswer, splitEdgeAnswer, splitFaceAnswer, answer}
+use Rattle.command.proofs.Chain.{first-left, first-right, when-false}
+use Rattle.command.proofs.Passed.{corner-live, face-live, room-passed, opposite-there}
+use Rattle.script.specs.Run.{whole, progress, fits, run, commands}
+use Rattle.promises.specs.Promises.{Untangled, atEdge, ofFace, RingUsed, EndFits, InRange, collapse, flip, splitBorder, splitInner, splitFace, Safe, InsideRun}
+use Rattle.promises.proofs.Promises.{after-every}
+
+module _ (t : Table) (Z : Shaped t) (W : WellFormed t) where
+  abbrev L : Linked (Live t) (opposite t) (vertex t)
+  L = table-linked t Z W
+
+  -- ---- walks
+
+  -- the ring by opposites alone is what the walk visits: both are the left side and, past a border, the right one
+  module _ (c : ℕ) (h : Live t c) where
+    abbrev co : List ℕ
+    co = t .cornerOpposite
+
+    abbrev lefts : Walk (Live t) (stuckL (oppositeAt co)) (swingL (oppositeAt co)) (t .corners) c
+    lefts = w L (t .corners) (λ d k. k .0) c h
+
+    abbrev rights : Walk (Live t) (stuckR (oppositeAt co)) (swingR (oppositeAt co)) (t .corners) c
+    rights = v L (t .corners) (λ d k. k .0) c h
+
+    by-end : (x : Stop (stuckL (oppositeAt co)) (swingL (oppositeAt co)) c (it (swingL (oppositeAt co)) c (lefts .last)))
+        → side true co c (t .corners) c
+        ≡ record { visits = after (it (swingL (oppositeAt co)) c) 0 (lefts .last); border = bordered (Live t) co (t .corners) true c lefts x }
+        → side false co c (t .corners) c
+        ≡ record { visits = after (it (swingR (oppositeAt co)) c) 0 (rights .last); border = bordered (Live t) co (t .corners) false c rights (rights .ends) }
+        → Healthy co (t .cornerMark) (t .corners) L c h → ringOf co (t .corners) c ≡ visits (walk co (t .cornerMark) (t .corners) c)
+    unfolding ringOf leftward rightward
+    by-end (border s) p q (fan a b e) = rw (p, q, e)
+    by-end (border s) p q (ring a b e) = absurd (a s)
+    by-end (closes s z) p q (ring a b e) = rw (p, e)
+    by-end (closes s z) p q (fan a b e) = absurd (s a)
+
+    ring-walk : ringOf co (t .corners) c ≡ visits (walk co (t .cornerMark) (t .corners) c)
+    ring-walk =
+        by-end (lefts .ends) (side-is (Live t) co (t .corners) true c lefts) (side-is (Live t) co (t .corners) false c rights) (corner-healthy t Z W c h)
+
+  untangled : Untangled t
+  untangled =
+      record {
+        lists = never-15 t Z W;
+        starts = λ c h. (L .face c h, W .cornerLive (vertex t c) (W .vertexLive c h));
+        walks = corner-calm t Z W;
+        rings = ring-walk;
+      }
+
+  -- ---- the four kinds
+
+  ring-at : (c : ℕ) → Live t c → RingUsed t c
+  ring-at c h = record { begins = h; visits = ring-used t Z W c h }
+
+  -- the ring of a live corner's vertex
+  ring-about : (c : ℕ) → Live t c → RingUsed t (corner t (vertex t c))
+  ring-about c h = ring-at (corner t (vertex t c)) (W .cornerLive (vertex t c) (W .vertexLive c h))
+
+  flip-in : (c : ℕ) → flipAnswer t c ≡ 0 → InRange t (Flip (record { 0 = c }))
+  unfolding flipAnswer
+  flip-in c e = flip (around-used t Z W c (corner-live t c (first-left _ _ e)) (opposite-there t c (first-left _ _ (first-right _ _ e))))
+
+  collapse-in : (c : ℕ) (p : Point) → collapseAnswer t c p ≡ 0 → InRange t (Collapse (record { 0 = c }) p)
+  unfolding collapseAnswer around
+  collapse-in c p e =
+      let h : Live t c = corner-live t c (first-left _ _ e) in
+      let h1 : Live t (next c) = L .face c h in
+      let n = when-false (affectsBoundary t c) 11 (omega arith) (first-left _ _ (first-right _ _ (first-right _ _ e))) in
+      collapse (around-used t Z W c h (inner t Z W c h n)) (ring-about (next c) h1) (ring-about (next (next c)) (L .face (next c) h1))
+
+  end-fits : (n : ℕ) → (t .vertices + 1 ≤ vertexRoom t) × (t .corners + n ≤ cornerRoom t) → EndFits t n
+  end-fits n r = record { vertices = omega (arith, r .0); corners = r .1 }
+
+  face-ring : (c : ℕ) → Live t c → RingUsed t (ofFace t c .c2 .0)
+  unfolding triangle
+  face-ring c h = ring-at (next (next c)) (L .face (next c) (L .face c h))
+
+  edge-ring : (c : ℕ) → Live t c → RingUsed t (atEdge t c .c2 .0)
+  unfolding around
+  edge-ring c h = ring-at (next c) (L .face c h)
+
+  edge-in : (c : ℕ) (p : Point) → splitEdgeAnswer t c p ≡ 0 → InRange t (SplitEdge (record { 0 = c }) p)
+  unfolding splitEdgeAnswer
+  edge-in c p e = go (ℕ-discrete (opposite t c) absent)
+    where
+      h : Live t c
+      h = corner-live t c (first-left _ _ e)
+
+      r : (t .vertices + 1 ≤ vertexRoom t) × (t .corners + cond (eqb (opposite t c) absent) 3 6 ≤ cornerRoom t)
+      r = room-passed t (cond (eqb (opposite t c) absent) 3 6) (first-right _ _ (first-right _ _ e))
+
+      go : Dec (opposite t c ≡ absent) → InRange t (SplitEdge (record { 0 = c }) p)
+      go (yes z) = splitBorder z (triangle-used t Z W (previous c) (face-previous L c h)) (face-ring (previous c) (face-previous L c h))
+          (end-fits 3 (rw (eq-eqb (opposite t c) absent z) at r))
+      go (no z) = splitInner z (around-used t Z W c h z) (edge-ring c h) (end-fits 6 (rw (ne-eqb (opposite t c) absent z) at r))
+
+  face-in : (f : ℕ) (p : Point) → splitFaceAnswer t f p ≡ 0 → InRange t (SplitFace (record { 0 = f }) p)
+  unfolding splitFaceAnswer
+  face-in f p e =
+      splitFace (triangle-used t Z W (firstCorner f) (face-live t f (first-left _ _ e)))
+      (end-fits 6 (room-passed t 6 (first-right _ _ (first-right _ _ e))))
+
+  in-range : (e : Edit) → answer t e ≡ 0 → InRange t e
+  unfolding answer
+  in-range (Collapse c p) h = collapse-in (c .0) p h
+  in-range (Flip c) h = flip-in (c .0) h
+  in-range (SplitEdge c p) h = edge-in (c .0) p h
+  in-range (SplitFace f p) h = face-in (f .0) p h
+  in-range Unknown h = absurd (omega (arith, h))
+
+  safe : (e : Edit) → Safe t e
+  safe e = record { untangled = untangled; inRange = in-range e }
+
+-- ---- a run that answers 0 had a well-formed table
+
+run-good : (t : Table) (s answers : List ℕ) → run t s answers .answer ≡ 0 → Shaped t × WellFormed t
+unfolding run
+run-good t s answers e = verdict-sound t (go (shaped t) (fits (length s) (length answers)) e)
+  where
+    by-7 : (x : Bool) → eqb (verdictOf t .answer) 0 ≡ x
+        → cond x (whole 0 0 0 (commands s (length s / 5) 0 answers t))
+        (whole (verdictOf t .answer) (verdictOf t .rule) (verdictOf t .slot) (progress answers t)) .answer ≡ 0
+        → verdictOf t .answer ≡ 0
+    by-7 true q z = eqb-true _ _ q
+    by-7 false q z = z
+
+    go : (a b : Bool)
+        → cond a
+        (cond b
+        (cond (eqb (verdictOf t .answer) 0) (whole 0 0 0 (commands s (length s / 5) 0 answers t))
+        (whole (verdictOf t .answer) (verdictOf t .rule) (verdictOf t .slot) (progress answers t)))
+        (whole 8 0 0 (progress answers t)))
+        (whole 1 0 0 (progress answers t)) .answer ≡ 0
+        → verdictOf t .answer ≡ 0
+    go true true z = by-7 (eqb (verdictOf t .answer) 0) refl z
+    go true false z = absurd (omega (arith, z))
+    go false b z = absurd (omega (arith, z))
+
+pub inside-run : InsideRun
+inside-run t s answers e k =
+    let g = run-good t s answers e in
+    let u : Kept t (commands s k 0 answers t .table) = after-every t (g .0) (g .1) s answers k in
+    safe (commands s k 0 answers t .table) (u .shaped) (u .wellFormed) (commandAt s k)
