@@ -44,7 +44,7 @@ pub fn decode(s: &[u32], i: usize) -> Edit
 // ---- the checks
 
 // n where something is wrong, else 0.
-fn when(wrong: bool, n: u32) -> u32
+pub fn when(wrong: bool, n: u32) -> u32
     ensures { λ r. ⌜ r ≡ whenOf wrong n ⌝ }
 {
     if wrong {
@@ -54,7 +54,7 @@ fn when(wrong: bool, n: u32) -> u32
 }
 
 // The first refusal.
-fn first(a: u32, b: u32) -> u32
+pub fn first(a: u32, b: u32) -> u32
     ensures { λ r. ⌜ r ≡ firstOf a b ⌝ }
 {
     if a == 0 {

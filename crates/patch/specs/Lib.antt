@@ -1,0 +1,2 @@
+-- The patch file.
+pub mod File

@@ -1,0 +1,2 @@
+-- Laws of counting.
+pub mod Counting

@@ -1,0 +1,3 @@
+-- What is counted on a table and over a script.
+pub mod Tally
+pub mod Commands
