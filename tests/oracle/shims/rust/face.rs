@@ -56,6 +56,12 @@ impl crate::Probe {
     pub fn corner_count(table: &CornerTable<f32>) -> usize { table.corners.len() }
     pub fn vertex_count(table: &CornerTable<f32>) -> usize { table.vertices.len() }
 
+    /// Room for so many more, so that no push has to move the table: what is measured is the edit.
+    pub fn reserve(table: &mut CornerTable<f32>, vertices: usize, corners: usize) {
+        table.vertices.reserve(vertices);
+        table.corners.reserve(corners);
+    }
+
     /// Puts a corner slot on the end: vertex, opposite, deleted mark.
     pub fn push_corner(table: &mut CornerTable<f32>, vertex: u32, opposite: u32, deleted: bool) {
         let mut corner = Corner::new(present(opposite), VertexId::new(vertex));
