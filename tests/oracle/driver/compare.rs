@@ -48,12 +48,22 @@ fn main() {
     let mut tally = Tally::default();
     for case in first..first + cases {
         if let Err(difference) = Case::new(seed, case, &mut tally).all() {
-            println!("DIFFERENT: seed {seed}, case {case}: {difference}");
-            println!("try it alone: compare {seed} 1 {case}");
+            println!("DIFFERENT: seed {seed}, case {case}: {}", difference.lines().next().unwrap());
+            tell_smallest(seed, case);
             std::process::exit(1);
         }
     }
     tally.print();
+}
+
+/// The first difference may be a large one: tells the shortest that the next thousand cases have.
+fn tell_smallest(seed: u64, first: u64) {
+    let mut tally = Tally::default();
+    let mut tried = |case| Case::new(seed, case, &mut tally).all().err().map(|text| (text.contains(LARGE), text.len(), case, text));
+    let found = (first..first + 1000).filter_map(&mut tried);
+    let (_, _, case, difference) = found.min().expect("the first one at least");
+    println!("the smallest of the cases from there on is case {case}: {difference}");
+    println!("try it alone: compare {seed} 1 {case}");
 }
 
 impl Tally {
@@ -68,6 +78,9 @@ impl Tally {
 }
 
 const HUGE: u64 = 999_999;
+
+/// Stands for a table that is too large to be told with every command.
+const LARGE: &str = "a large table";
 
 struct Case<'a> {
     random: Random,
@@ -226,7 +239,7 @@ impl Case<'_> {
         self.tally.done += (answer == 0) as usize;
         self.count(answer);
         let Table { vertices, corners, .. } = judge.table;
-        let what = || format!("command {command:?} on {}", before.as_ref().map_or("a large table".into(), described));
+        let what = || format!("command {command:?} on {}", before.as_ref().map_or(LARGE.into(), described));
         equal(&ran, &Ran { answer: 0, rule: 0, slot: 0, vertices, corners }, what)?;
         equal(&found.words(), &&[answer, 0x2222_2222][..], what)?;
         same_table(lent, &judge.table, what)?;
