@@ -103,12 +103,14 @@ impl Random {
 
 /// Commands that are all accepted, one after the other: each is tried first. `kinds` in turn.
 fn accepted(table: &Table, kinds: &[u32]) -> Vec<u32> {
+    // collapses delete: of a small patch a quarter, so that it stays a floor and does not become a few crowded vertices
+    let most = if kinds == [1] { COMMANDS.min(table.vertices as usize / 4) } else { COMMANDS };
     let mut lent = Lent::of(table);
     let mut random = Random(0x9e37_79b9_7f4a_7c15);
     let mut script = Vec::new();
     let mut answers = Memory::of(&[0]);
     for turn in 0..20 * COMMANDS {
-        if script.len() == 5 * COMMANDS {
+        if script.len() == 5 * most {
             break;
         }
         let kind = kinds[turn % kinds.len()];
@@ -206,7 +208,21 @@ fn rings(floor: &Floor, table: &Table, turns: usize) {
         });
         (ours, rust)
     });
-    row("ring of vertices, a vertex", floor.vertices, pairs.collect());
+    row("ring of vertices written to a lent list, a vertex", floor.vertices, pairs.collect());
+    let pairs = (0..turns).map(|_| {
+        let ours = nanoseconds(|| {
+            for v in 0..floor.vertices as u32 {
+                black_box(lent.ring(0, v, &mut list));
+            }
+        });
+        let rust = nanoseconds(|| {
+            for v in 0..floor.vertices as u32 {
+                black_box(Probe::collected(&rust, Probe::vertex(v)));
+            }
+        });
+        (ours, rust)
+    });
+    row("ring of corners, the Rust's as its own list, a vertex", floor.vertices, pairs.collect());
 }
 
 /// A script's edits: the run without the check that it begins with, whose time is taken on the same table just before.

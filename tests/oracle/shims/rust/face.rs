@@ -56,6 +56,11 @@ impl crate::Probe {
     pub fn corner_count(table: &CornerTable<f32>) -> usize { table.corners.len() }
     pub fn vertex_count(table: &CornerTable<f32>) -> usize { table.vertices.len() }
 
+    /// The Rust's own list of the corners around a vertex.
+    pub fn collected(table: &CornerTable<f32>, vertex: VertexId) -> Vec<CornerId> {
+        traversal::collect_corners_around_vertex(table, vertex)
+    }
+
     /// Room for so many more, so that no push has to move the table: what is measured is the edit.
     pub fn reserve(table: &mut CornerTable<f32>, vertices: usize, corners: usize) {
         table.vertices.reserve(vertices);
