@@ -1,0 +1,2 @@
+-- The laws behind the loops of this crate.
+pub mod Loops

@@ -1,0 +1,72 @@
+-- A loop that writes f 0, f 1, .., one that tests every number below n, and a part of a list that ends where the list ends.
+use mathlib.Core.Path.{_≡_, refl, ap, sym, _∙_}
+use mathlib.Core.Bool.{Bool, true, false, _&&_, cond}
+use mathlib.Core.List.{List, []}
+use Prim.Native.Nat.{ℕ, zero, suc, _+_, _-_, _≤_, _<_}
+use native.Mathlib.Omega.{arith}
+use native.Mathlib.Numerals.{add-one}
+use lib.ListN.{length, set, length-set, take, drop, length-drop, drop-of-length-le}
+use lib.Seq.{take-all}
+use Rattle.records.specs.Words.{written}
+use Rattle.records.specs.Same.{every}
+
+module _ {A : Type 0} (base : ℕ) (f : ℕ → A) (l₀ : List A) where
+  pub written-none : l₀ ≡ written 0 base f l₀
+  unfolding written
+  written-none = refl
+
+  pub written-more : (k j : ℕ) (l r : List A) (v : A) → l ≡ written k base f l₀ → v ≡ f k → j ≡ base + k → r ≡ set l j v →
+      r ≡ written (k + 1) base f l₀
+  unfolding written
+  written-more k j l r v p q i e = rw add-one (cc)
+
+  pub written-length : (k : ℕ) → length (written k base f l₀) ≡ length l₀
+  unfolding written
+  written-length zero = refl
+  written-length (suc k) = length-set (written k base f l₀) (base + k) (f k) ∙ written-length k
+
+  pub written-all : (k n : ℕ) (l : List A) → l ≡ written k base f l₀ → k ≡ n → l ≡ written n base f l₀
+  written-all k n l p e = cc
+
+module _ (test : ℕ → Bool) where
+  pub every-none : every 0 test ≡ true
+  unfolding every
+  every-none = refl
+
+  pub every-more : (k : ℕ) → every k test ≡ true → test k ≡ true → every (k + 1) test ≡ true
+  unfolding every
+  every-more k p q = rw (add-one, q) p
+
+  pub every-all : (k n : ℕ) → every k test ≡ true → k ≡ n → every n test ≡ true
+  every-all k n p e = cc
+
+  apart : (k n : ℕ) → test k ≡ false → test n ≡ true → k < suc n → k < n
+  apart k n q e h = below k n h (λ s. unlike (sym q ∙ ap test s ∙ e))
+    where
+      unlike : false ≡ true → ⊥
+      unlike z = let y : _≡_ {A = ℕ} 0 1 = cc in omega arith
+      below : (k n : ℕ) → k < suc n → (k ≡ n → ⊥) → k < n
+      below k n h d = omega arith
+
+  by-last : (n : ℕ) (b : Bool) → test n ≡ b → (test n ≡ true → every n test ≡ false) → (b && every n test) ≡ false
+  by-last n true e h = h e
+  by-last n false e h = refl
+
+  pub every-fails : (n k : ℕ) → k < n → test k ≡ false → every n test ≡ false
+  unfolding every
+  every-fails zero k h q = absurd (omega arith)
+  every-fails (suc n) k h q = by-last n (test n) refl (λ e. every-fails n k (apart k n q e h) q)
+
+-- a part that starts or ends past the list's end
+module _ {A : Type 0} (l : List A) where
+  pub whole-take : (n : ℕ) → length l < n → l ≡ take n l
+  whole-take n h = sym (take-all n l (omega arith))
+
+  pub rest-drop : (a : ℕ) → take (length l - a) (drop a l) ≡ drop a l
+  rest-drop a = take-all (length l - a) (drop a l) (simp length-drop (omega arith))
+
+  pub none-drop : (a : ℕ) → length l < a → [] ≡ drop a l
+  none-drop a h = sym (drop-of-length-le l (late h))
+    where
+      late : length l < a → length l ≤ a
+      late h = omega arith
