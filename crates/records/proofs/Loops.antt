@@ -1,13 +1,13 @@
 -- A loop that writes f 0, f 1, .., one that tests every number below n, and a part of a list that ends where the list ends.
 use mathlib.Core.Path.{_≡_, refl, ap, sym, _∙_}
 use mathlib.Core.Bool.{Bool, true, false, _&&_, cond}
-use mathlib.Core.List.{List, []}
+use mathlib.Core.List.{List, [], _∷_, _++_}
 use Prim.Native.Nat.{ℕ, zero, suc, _+_, _-_, _≤_, _<_}
 use native.Mathlib.Omega.{arith}
 use native.Mathlib.Numerals.{add-one}
 use lib.ListN.{length, set, length-set, take, drop, length-drop, drop-of-length-le}
-use lib.Seq.{take-all}
-use Rattle.records.specs.Words.{written}
+use lib.Seq.{take-all, take-suc-set}
+use Rattle.records.specs.Words.{written, tabled}
 use Rattle.records.specs.Same.{every}
 
 module _ {A : Type 0} (base : ℕ) (f : ℕ → A) (l₀ : List A) where
@@ -70,3 +70,36 @@ module _ {A : Type 0} (l : List A) where
     where
       late : length l < a → length l ≤ a
       late h = omega arith
+
+-- a loop that has stored f 0, .. f (i - 1) in the first slots of l₀
+module _ {A : Type 0} (l₀ : List A) (f : ℕ → A) where
+  pub record Tabling (l : List A) (i : ℕ) : Type 0 where
+    pub size : length l ≡ length l₀
+    pub low : i ≤ length l₀
+    pub head : take i l ≡ tabled i f
+
+  pub tabling-start : Tabling l₀ 0
+  unfolding tabled
+  tabling-start = record { size = refl; low = omega arith; head = refl }
+
+  pub tabling-on : (l : List A) (i : ℕ) (x : A) → Tabling l i → i < length l₀ → x ≡ f i → Tabling (set l i x) (i + 1)
+  unfolding tabled
+  tabling-on l i x F h e =
+      record {
+        size = length-set l i x ∙ F .size;
+        low = omega arith;
+        head = rw add-one (take-suc-set l i x (inside (F .size)) ∙ grow (F .head));
+      }
+    where
+      inside : length l ≡ length l₀ → i < length l
+      inside s = omega arith
+      grow : take i l ≡ tabled i f → take i l ++ (x ∷ []) ≡ tabled i f ++ (f i ∷ [])
+      grow p = cc
+
+  pub tabling-end : (l : List A) (i : ℕ) → Tabling l i → length l₀ ≤ i → l ≡ tabled (length l₀) f
+  tabling-end l i F h = sym (take-all i l (over (F .size))) ∙ F .head ∙ ap (λ (n : ℕ). tabled n f) (same (F .low))
+    where
+      over : length l ≡ length l₀ → length l ≤ i
+      over s = omega arith
+      same : i ≤ length l₀ → i ≡ length l₀
+      same z = omega arith

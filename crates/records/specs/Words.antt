@@ -1,6 +1,6 @@
 -- The list's words: "little-endian 32-bit words, in records: op n w1 .. wn".
 use Prim.Native.Nat.{ℕ, zero, suc, _+_, _*_}
-use mathlib.Core.List.{List}
+use mathlib.Core.List.{List, [], _∷_, _++_}
 use lib.Ieee.{Float, ofBits, binary32}
 use lib.ListN.{getD, set}
 
@@ -23,3 +23,8 @@ numberNo w rest k = ofBits binary32 (getD w k rest)
 unfoldable pub written : {A : Type 0} → ℕ → ℕ → (ℕ → A) → List A → List A
 written zero base f l = l
 written (suc n) base f l = set (written n base f l) (base + n) (f n)
+
+-- the list f 0, f 1, .. f (n - 1)
+unfoldable pub tabled : {A : Type 0} → ℕ → (ℕ → A) → List A
+tabled zero f = []
+tabled (suc n) f = tabled n f ++ (f n ∷ [])

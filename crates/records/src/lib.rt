@@ -6,13 +6,12 @@ ghost use mathlib.Core.Bool.{_&&_};
 ghost use Prim.Native.Nat.{_+_, _*_, _/_, _<_, _≤_, min};
 ghost use lib.Dec.{eqb, leb};
 ghost use lib.ListN.{length, getD, set, take, drop};
-ghost use Rattle.records.specs.Words.{wordOf, wordAt, written, wordNo, numberNo};
+ghost use Rattle.records.specs.Words.{wordOf, wordAt, written, tabled, wordNo, numberNo};
 ghost use Rattle.records.specs.Same.{every, sameWord, sameNumber, holdsOf, holdNumbersOf, oneUnless};
 ghost use Rattle.records.specs.Tally.{upped, bumped};
 use table::at;
 use table::float_at;
 use table::put;
-use table::put_float;
 
 // ---- bytes to words
 
@@ -67,13 +66,13 @@ pub fn least(a: usize, b: usize) -> usize
 
 // The floats of which the words are the bits, and then those of `rest`.
 pub fn put_numbers(w: &[u32], rest: u32, to: &mut [f32])
-    ensures { λ r. ⌜ now (to .exit) ≡ written (length (now (to .entry))) 0 (numberNo (now (w .entry)) rest) (now (to .entry)) ⌝ }
+    ensures { λ r. ⌜ now (to .exit) ≡ tabled (length (now (to .entry))) (numberNo (now (w .entry)) rest) ⌝ }
 {
     let n = to.len();
     let mut k: usize = 0;
     while k < n {
         let x = vertex::float_of(at(w, k, rest));
-        put_float(to, k, x);
+        to[k] = x;
         k += 1;
     }
 }
