@@ -145,7 +145,7 @@ pub fn hold_numbers(l: &[f32], w: &[u32], rest: u32) -> bool
 
 // What a comparison adds to the count of wrong records.
 pub fn one_unless(right: bool) -> u32
-    ensures { λ r. ⌜ r ≡ oneUnless right ⌝ }
+    ensures { λ r. ⌜ (r ≡ oneUnless right) × (r ≤ 1) ⌝ }
 {
     if right { 0 } else { 1 }
 }

