@@ -72,16 +72,18 @@ pub fn rooms_after(op: u32, w: &[u32], old: Rooms) -> Rooms
 fn fill_part(l: &mut [u32], n: u32, v: u32) -> bool
     ensures { λ r. ⌜ (r ≡ roomIs (now (l .entry)) n) × (now (l .exit) ≡ blanked v (now (l .entry))) ⌝ }
 {
+    let same = l.len() == n as usize;
     fill(l, v);
-    l.len() == n as usize
+    same
 }
 
 fn fill_points(l: &mut [f32], n: u32, v: u32) -> bool
     ensures { λ r. ⌜ (r ≡ roomIs (now (l .entry)) n) × (now (l .exit) ≡ tabled (length (now (l .entry))) (numberNo [] v)) ⌝ }
 {
+    let same = l.len() == n as usize;
     let none = [0u32; 0];
     put_numbers(&none, v, l);
-    l.len() == n as usize
+    same
 }
 
 fn rooms_right(w: &[u32], cv: bool, co: bool, cm: bool, vc: bool, vm: bool, vp: bool) -> bool
