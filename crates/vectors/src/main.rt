@@ -1,8 +1,9 @@
 // The stored list, replayed record by record against the library: a line for each record that comes out otherwise than listed, then how
 // many records of each op there are, how often each answer is listed, and how many records were wrong.
 ghost use mathlib.Core.Path.{_≡_};
-ghost use Prim.Native.Nat.{_+_, _*_, _≤_};
+ghost use Prim.Native.Nat.{_≤_};
 ghost use lib.ListN.{length};
+ghost use Rattle.vectors.specs.Places.{placeOf};
 use libc::STDOUT_FILENO;
 use records::both;
 use records::bump;
@@ -141,19 +142,33 @@ fn note_commands(w: &[u32], answers: &mut [u32])
     }
 }
 
-fn note_answers(op: u32, w: &[u32], answers: &mut [u32])
+// A run that was done lists an answer for each command.
+fn note_run(op: u32, w: &[u32], answers: &mut [u32])
     ensures { λ r. ⌜ length (now (answers .exit)) ≡ length (now (answers .entry)) ⌝ }
 {
-    if op == 7 || op == 8 {
-        bump(answers, at(w, 2, 0));
+    if op != 6 {
         return;
     }
-    if op == 4 || op == 5 || op == 6 {
-        bump(answers, at(w, 0, 0));
+    if at(w, 0, 0) != 0 {
+        return;
     }
-    if op == 6 && at(w, 0, 0) == 0 {
-        note_commands(w, answers);
+    note_commands(w, answers);
+}
+
+// Where a record lists its call's answer; past its end where it has none.
+fn place(op: u32) -> usize
+    ensures { λ r. ⌜ r ≡ placeOf op ⌝ }
+{
+    if op < 4 {
+        return 4294967295;
     }
+    if op < 7 {
+        return 0;
+    }
+    if op < 9 {
+        return 2;
+    }
+    4294967295
 }
 
 fn tally(words: &[u32], ops: &mut [u32], answers: &mut [u32])
@@ -164,8 +179,10 @@ fn tally(words: &[u32], ops: &mut [u32], answers: &mut [u32])
     while from < end {
         let op = at(words, from, 0);
         let n = at(words, from + 1, 0) as usize;
+        let w = first(past(words, from + 2), n);
         bump(ops, op);
-        note_answers(op, first(past(words, from + 2), n), answers);
+        bump(answers, at(w, place(op), 17));
+        note_run(op, w, answers);
         from += 2 + n;
     }
 }
