@@ -241,6 +241,17 @@ fn replay_all(words: &[u32]) -> u32
     )
 }
 
+// The file is read, replayed and counted.
+fn replay_file(fd: i32, words: &mut [u32])
+    ensures { λ r. ⌜ length (now (words .exit)) ≡ length (now (words .entry)) ⌝ }
+{
+    let n = load(fd, words) as usize;
+    let list = first(words, n);
+    let bad = replay_all(list);
+    say_tallies(list);
+    line(b"wrong: ", bad);
+}
+
 fn main() {
     let mut path = io::buffer();
     let length = os::arg(1, &mut path);
@@ -254,9 +265,6 @@ fn main() {
         return;
     }
     let mut words = [0u32; 409600];
-    let n = load(fd, &mut words) as usize;
+    replay_file(fd, &mut words);
     libc::close(fd);
-    let bad = replay_all(&words[..n]);
-    say_tallies(&words[..n]);
-    line(b"wrong: ", bad);
 }
