@@ -174,17 +174,7 @@ fn replay_build(
 {
     let p = at(w, 4, 0) as usize;
     put_numbers(past(w, 5), 0, numbers);
-    let b = builder::build(
-        cv,
-        co,
-        cm,
-        vc,
-        vm,
-        vp,
-        counts,
-        numbers,
-        past(w, 5 + p),
-    );
+    let b = builder::build(cv, co, cm, vc, vm, vp, counts, numbers, past(w, 5 + p));
     let n = b.counts;
     let sized = both(numbers.len() == p, 5 + p <= w.len());
     leave(n, one_unless(both(built_as(b, w), sized)))

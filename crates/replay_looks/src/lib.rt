@@ -71,7 +71,13 @@ pub fn ran_as(b: script::Ran, w: &[u32]) -> bool
 fn ringed_as(b: Ring, w: &[u32]) -> bool
     ensures { λ r. ⌜ r ≡ ringedAs (now (w .entry)) (b .answer) (b .visited) (b .written) ⌝ }
 {
-    three_are(w, 2, b.answer as usize, b.visited as usize, b.written as usize)
+    three_are(
+        w,
+        2,
+        b.answer as usize,
+        b.visited as usize,
+        b.written as usize,
+    )
 }
 
 fn bit(b: bool) -> usize

@@ -106,20 +106,7 @@ fn play(
         let n = at(words, from + 1, 0) as usize;
         let w = first(past(words, from + 2), n);
         rooms = replay::rooms_after(op, w, rooms);
-        let left = replay::replay(
-            op,
-            rooms,
-            cv,
-            co,
-            cm,
-            vc,
-            vm,
-            vp,
-            counts,
-            w,
-            numbers,
-            list,
-        );
+        let left = replay::replay(op, rooms, cv, co, cm, vc, vm, vp, counts, w, numbers, list);
         counts = left.counts;
         bad += told(left.wrong, w.len() == n, k, op);
         k += 1;

@@ -2,23 +2,16 @@ use mathlib.Core.Path.{refl}
 use borrow.Author.Needs.{needs}
 use Rattle.replay.proofs.fill_points.Statement.{statement}
 use Rattle.replay.proofs.fill_points.Tie as tie
-use Rattle.replay.proofs.fill_points.Reads as reads
-use Rattle.replay.proofs.fill_points.Lts as lts
-use Rattle.records.proofs.put_numbers.Reads as put-numbers-reads
 
--- src/lib.rt:83:17
 slice-aggregate-put-numbers : tie.Need-slice-aggregate-put-numbers
 slice-aggregate-put-numbers c = search needs
 
--- src/lib.rt:83:5
 put-numbers-requires : tie.Need-put-numbers-requires
 put-numbers-requires c κs = search needs
 
--- src/lib.rt:79:1
 same-length : tie.Need-same-length
 same-length c = search needs
 
--- src/lib.rt:79:1
 returns : tie.Need-returns
 returns c = (refl, c .before .before .put-numbers .ensures)
 

@@ -3,30 +3,21 @@ use borrow.Author.Tests.{eq-eqb, ne-eqb}
 use borrow.Author.Needs.{needs}
 use Rattle.replay.proofs.list_count.Statement.{statement}
 use Rattle.replay.proofs.list_count.Tie as tie
-use Rattle.replay.proofs.list_count.Reads as reads
-use Rattle.replay.proofs.list_count.Lts as lts
-use Rattle.replay.proofs.answer_room.Reads as answer-room-reads
-use Rattle.table.proofs.at.Reads as at-reads
 
--- src/lib.rt:299:9
 answer-room-requires : tie.Need-answer-room-requires
 answer-room-requires c κs = search needs
 
--- src/lib.rt:299:9
 returns : tie.Need-returns
 unfolding listCount
 returns c = simp (eq-eqb _ _ (c .before .if1 .taken)) (c .answer-room .ensures)
 
--- src/lib.rt:301:18
 at-requires : tie.Need-at-requires
 at-requires c κs = search needs
 
--- src/lib.rt:295:1
 returns-2 : tie.Need-returns-2
 unfolding listCount
 returns-2 c = simp (ne-eqb _ _ (c .before .before .if1 .left), eq-eqb _ _ (c .before .if2 .taken)) (c .at .ensures)
 
--- src/lib.rt:295:1
 returns-3 : tie.Need-returns-3
 unfolding listCount
 returns-3 c = simp (ne-eqb _ _ (c .before .if1 .left), ne-eqb _ _ (c .if2 .left))

@@ -3,20 +3,14 @@ use borrow.Author.Tests.{eq-eqb, ne-eqb}
 use borrow.Author.Needs.{needs}
 use Rattle.replay.proofs.number_count.Statement.{statement}
 use Rattle.replay.proofs.number_count.Tie as tie
-use Rattle.replay.proofs.number_count.Reads as reads
-use Rattle.replay.proofs.number_count.Lts as lts
-use Rattle.table.proofs.at.Reads as at-reads
 
--- src/lib.rt:291:18
 at-requires : tie.Need-at-requires
 at-requires c κs = search needs
 
--- src/lib.rt:288:1
 returns : tie.Need-returns
 unfolding numberCount
 returns c = simp (eq-eqb _ _ (c .before .if1 .taken)) (c .at .ensures)
 
--- src/lib.rt:288:1
 returns-2 : tie.Need-returns-2
 unfolding numberCount
 returns-2 c = simp (ne-eqb _ _ (c .if1 .left))

@@ -3,186 +3,136 @@ use mathlib.Core.Path.{sym}
 use borrow.Author.Needs.{needs}
 use Rattle.replay.proofs.replay.Statement.{statement}
 use Rattle.replay.proofs.replay.Tie as tie
-use Rattle.replay.proofs.replay.Reads as reads
-use Rattle.replay.proofs.replay.Lts as lts
-use Rattle.records.proofs.least.Reads as least-reads
-use Rattle.replay.proofs.list_count.Reads as list-count-reads
-use Rattle.replay.proofs.number_count.Reads as number-count-reads
-use Rattle.replay.proofs.work.Reads as work-reads
 
--- src/lib.rt:321:19
 cast-least : tie.Need-cast-least
 cast-least c = search needs
 
--- src/lib.rt:321:9
 least-requires : tie.Need-least-requires
 least-requires c κs = search needs
 
--- src/lib.rt:322:19
 cast-least-2 : tie.Need-cast-least-2
 cast-least-2 c = search needs
 
--- src/lib.rt:322:9
 least-requires-2 : tie.Need-least-requires-2
 least-requires-2 c κs = search needs
 
--- src/lib.rt:323:19
 cast-least-3 : tie.Need-cast-least-3
 cast-least-3 c = search needs
 
--- src/lib.rt:323:9
 least-requires-3 : tie.Need-least-requires-3
 least-requires-3 c κs = search needs
 
--- src/lib.rt:324:19
 cast-least-4 : tie.Need-cast-least-4
 cast-least-4 c = search needs
 
--- src/lib.rt:324:9
 least-requires-4 : tie.Need-least-requires-4
 least-requires-4 c κs = search needs
 
--- src/lib.rt:325:19
 cast-least-5 : tie.Need-cast-least-5
 cast-least-5 c = search needs
 
--- src/lib.rt:325:9
 least-requires-5 : tie.Need-least-requires-5
 least-requires-5 c κs = search needs
 
--- src/lib.rt:326:19
 cast-least-6 : tie.Need-cast-least-6
 cast-least-6 c = search needs
 
--- src/lib.rt:326:9
 least-requires-6 : tie.Need-least-requires-6
 least-requires-6 c κs = search needs
 
--- src/lib.rt:327:19
 number-count-requires : tie.Need-number-count-requires
 number-count-requires c κs = search needs
 
--- src/lib.rt:327:19
 cast-least-7 : tie.Need-cast-least-7
 cast-least-7 c = search needs
 
--- src/lib.rt:327:9
 least-requires-7 : tie.Need-least-requires-7
 least-requires-7 c κs = search needs
 
--- src/lib.rt:328:19
 list-count-requires : tie.Need-list-count-requires
 list-count-requires c κs = search needs
 
--- src/lib.rt:328:19
 cast-least-8 : tie.Need-cast-least-8
 cast-least-8 c = search needs
 
--- src/lib.rt:328:9
 least-requires-8 : tie.Need-least-requires-8
 least-requires-8 c κs = search needs
 
--- src/lib.rt:331:9
 slice-relend-prefix-work : tie.Need-slice-relend-prefix-work
 slice-relend-prefix-work c = search needs
 
--- src/lib.rt:331:9
 slice-aggregate-work : tie.Need-slice-aggregate-work
 slice-aggregate-work c = sym (length-take-le _ _ (search needs))
 
--- src/lib.rt:332:9
 slice-relend-prefix-work-2 : tie.Need-slice-relend-prefix-work-2
 slice-relend-prefix-work-2 c = search needs
 
--- src/lib.rt:332:9
 slice-aggregate-work-2 : tie.Need-slice-aggregate-work-2
 slice-aggregate-work-2 c = sym (length-take-le _ _ (search needs))
 
--- src/lib.rt:333:9
 slice-relend-prefix-work-3 : tie.Need-slice-relend-prefix-work-3
 slice-relend-prefix-work-3 c = search needs
 
--- src/lib.rt:333:9
 slice-aggregate-work-3 : tie.Need-slice-aggregate-work-3
 slice-aggregate-work-3 c = sym (length-take-le _ _ (search needs))
 
--- src/lib.rt:334:9
 slice-relend-prefix-work-4 : tie.Need-slice-relend-prefix-work-4
 slice-relend-prefix-work-4 c = search needs
 
--- src/lib.rt:334:9
 slice-aggregate-work-4 : tie.Need-slice-aggregate-work-4
 slice-aggregate-work-4 c = sym (length-take-le _ _ (search needs))
 
--- src/lib.rt:335:9
 slice-relend-prefix-work-5 : tie.Need-slice-relend-prefix-work-5
 slice-relend-prefix-work-5 c = search needs
 
--- src/lib.rt:335:9
 slice-aggregate-work-5 : tie.Need-slice-aggregate-work-5
 slice-aggregate-work-5 c = sym (length-take-le _ _ (search needs))
 
--- src/lib.rt:336:9
 slice-relend-prefix-work-6 : tie.Need-slice-relend-prefix-work-6
 slice-relend-prefix-work-6 c = search needs
 
--- src/lib.rt:336:9
 slice-aggregate-work-6 : tie.Need-slice-aggregate-work-6
 slice-aggregate-work-6 c = sym (length-take-le _ _ (search needs))
 
--- src/lib.rt:339:9
 slice-relend-prefix-work-7 : tie.Need-slice-relend-prefix-work-7
 slice-relend-prefix-work-7 c = search needs
 
--- src/lib.rt:339:9
 slice-aggregate-work-7 : tie.Need-slice-aggregate-work-7
 slice-aggregate-work-7 c = sym (length-take-le _ _ (search needs))
 
--- src/lib.rt:340:9
 slice-relend-prefix-work-8 : tie.Need-slice-relend-prefix-work-8
 slice-relend-prefix-work-8 c = search needs
 
--- src/lib.rt:340:9
 slice-aggregate-work-8 : tie.Need-slice-aggregate-work-8
 slice-aggregate-work-8 c = sym (length-take-le _ _ (search needs))
 
--- src/lib.rt:329:5
 work-requires : tie.Need-work-requires
 work-requires c κs = search needs
 
--- src/lib.rt:305:1
 same-length : tie.Need-same-length
 same-length c = search needs
 
--- src/lib.rt:305:1
 same-length-2 : tie.Need-same-length-2
 same-length-2 c = search needs
 
--- src/lib.rt:305:1
 same-length-3 : tie.Need-same-length-3
 same-length-3 c = search needs
 
--- src/lib.rt:305:1
 same-length-4 : tie.Need-same-length-4
 same-length-4 c = search needs
 
--- src/lib.rt:305:1
 same-length-5 : tie.Need-same-length-5
 same-length-5 c = search needs
 
--- src/lib.rt:305:1
 same-length-6 : tie.Need-same-length-6
 same-length-6 c = search needs
 
--- src/lib.rt:305:1
 same-length-7 : tie.Need-same-length-7
 same-length-7 c = search needs
 
--- src/lib.rt:305:1
 same-length-8 : tie.Need-same-length-8
 same-length-8 c = search needs
 
--- src/lib.rt:305:1
 returns : tie.Need-returns
 returns c = search needs
 

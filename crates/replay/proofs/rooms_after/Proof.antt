@@ -3,40 +3,29 @@ use borrow.Author.Tests.{eq-eqb, ne-eqb}
 use borrow.Author.Needs.{needs}
 use Rattle.replay.proofs.rooms_after.Statement.{statement}
 use Rattle.replay.proofs.rooms_after.Tie as tie
-use Rattle.replay.proofs.rooms_after.Reads as reads
-use Rattle.replay.proofs.rooms_after.Lts as lts
-use Rattle.table.proofs.at.Reads as at-reads
 
--- src/lib.rt:60:17
 at-requires : tie.Need-at-requires
 at-requires c κs = search needs
 
--- src/lib.rt:61:17
 at-requires-2 : tie.Need-at-requires-2
 at-requires-2 c κs = search needs
 
--- src/lib.rt:62:17
 at-requires-3 : tie.Need-at-requires-3
 at-requires-3 c κs = search needs
 
--- src/lib.rt:63:17
 at-requires-4 : tie.Need-at-requires-4
 at-requires-4 c κs = search needs
 
--- src/lib.rt:64:17
 at-requires-5 : tie.Need-at-requires-5
 at-requires-5 c κs = search needs
 
--- src/lib.rt:65:17
 at-requires-6 : tie.Need-at-requires-6
 at-requires-6 c κs = search needs
 
--- src/lib.rt:59:9
 returns : tie.Need-returns
 unfolding roomsAfter
 returns c = simp (eq-eqb _ _ (c .before .before .before .before .before .before .if1 .taken)) (cc)
 
--- src/lib.rt:55:1
 returns-2 : tie.Need-returns-2
 unfolding roomsAfter
 returns-2 c = simp (ne-eqb _ _ (c .if1 .left))

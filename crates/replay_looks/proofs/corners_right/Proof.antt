@@ -2,41 +2,28 @@ use Rattle.replay_looks.specs.Look.{cornersRight}
 use borrow.Author.Needs.{needs}
 use Rattle.replay_looks.proofs.corners_right.Statement.{statement}
 use Rattle.replay_looks.proofs.corners_right.Tie as tie
-use Rattle.replay_looks.proofs.corners_right.Reads as reads
-use Rattle.replay_looks.proofs.corners_right.Lts as lts
-use Rattle.records.proofs.both.Reads as both-reads
-use Rattle.replay_looks.proofs.next_part.Reads as next-part-reads
-use Rattle.replay_looks.proofs.part_right.Reads as part-right-reads
 
--- src/lib.rt:269:9
 next-part-requires : tie.Need-next-part-requires
 next-part-requires c κs = search needs
 
--- src/lib.rt:270:9
 next-part-requires-2 : tie.Need-next-part-requires-2
 next-part-requires-2 c κs = search needs
 
--- src/lib.rt:272:14
 part-right-requires : tie.Need-part-right-requires
 part-right-requires c κs = search needs
 
--- src/lib.rt:272:33
 part-right-requires-2 : tie.Need-part-right-requires-2
 part-right-requires-2 c κs = search needs
 
--- src/lib.rt:272:9
 both-requires : tie.Need-both-requires
 both-requires c κs = search needs
 
--- src/lib.rt:273:9
 part-right-requires-3 : tie.Need-part-right-requires-3
 part-right-requires-3 c κs = search needs
 
--- src/lib.rt:271:5
 both-requires-2 : tie.Need-both-requires-2
 both-requires-2 c κs = search needs
 
--- src/lib.rt:266:1
 returns : tie.Need-returns
 unfolding cornersRight
 returns c = cc

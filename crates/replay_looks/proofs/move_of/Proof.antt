@@ -3,51 +3,34 @@ use mathlib.Core.Path.{_∙_}
 use borrow.Author.Needs.{needs}
 use Rattle.replay_looks.proofs.move_of.Statement.{statement}
 use Rattle.replay_looks.proofs.move_of.Tie as tie
-use Rattle.replay_looks.proofs.move_of.Reads as reads
-use Rattle.replay_looks.proofs.move_of.Lts as lts
-use Rattle.walker.proofs.next_from.Reads as next-from-reads
-use Rattle.walker.proofs.opposite_from.Reads as opposite-from-reads
-use Rattle.walker.proofs.previous_from.Reads as previous-from-reads
-use Rattle.walker.proofs.swing_left_from.Reads as swing-left-from-reads
-use Rattle.walker.proofs.swing_right_from.Reads as swing-right-from-reads
 
--- src/lib.rt:193:9
 next-from-requires : tie.Need-next-from-requires
 next-from-requires c κs = search needs
 
--- src/lib.rt:193:9
 returns : tie.Need-returns
 returns c = c .next-from .ensures ∙ move-0 _ _ _ (c .before .if1 .taken)
 
--- src/lib.rt:196:9
 previous-from-requires : tie.Need-previous-from-requires
 previous-from-requires c κs = search needs
 
--- src/lib.rt:196:9
 returns-2 : tie.Need-returns-2
 returns-2 c = c .previous-from .ensures ∙ move-1 _ _ _ (c .before .if2 .taken)
 
--- src/lib.rt:199:9
 opposite-from-requires : tie.Need-opposite-from-requires
 opposite-from-requires c κs = search needs
 
--- src/lib.rt:199:9
 returns-3 : tie.Need-returns-3
 returns-3 c = c .opposite-from .ensures ∙ move-2 _ _ _ (c .before .if3 .taken)
 
--- src/lib.rt:202:9
 swing-left-from-requires : tie.Need-swing-left-from-requires
 swing-left-from-requires c κs = search needs
 
--- src/lib.rt:202:9
 returns-4 : tie.Need-returns-4
 returns-4 c = c .swing-left-from .ensures ∙ move-3 _ _ _ (c .before .if4 .taken)
 
--- src/lib.rt:204:5
 swing-right-from-requires : tie.Need-swing-right-from-requires
 swing-right-from-requires c κs = search needs
 
--- src/lib.rt:178:1
 returns-5 : tie.Need-returns-5
 returns-5 c = c .swing-right-from .ensures ∙ move-4 _ _ _ (c .before .before .before .before .if1 .left) (c .before .before .before .if2 .left) (c .before .before .if3 .left) (c .before .if4 .left)
 

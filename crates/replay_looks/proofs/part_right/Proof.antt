@@ -2,48 +2,31 @@ use Rattle.replay_looks.specs.Look.{partRight}
 use borrow.Author.Needs.{needs}
 use Rattle.replay_looks.proofs.part_right.Statement.{statement}
 use Rattle.replay_looks.proofs.part_right.Tie as tie
-use Rattle.replay_looks.proofs.part_right.Reads as reads
-use Rattle.replay_looks.proofs.part_right.Lts as lts
-use Rattle.records.proofs.both.Reads as both-reads
-use Rattle.records.proofs.first.Reads as first-reads
-use Rattle.records.proofs.holds.Reads as holds-reads
-use Rattle.records.proofs.past.Reads as past-reads
-use Rattle.replay_looks.proofs.whole_part.Reads as whole-part-reads
-use Rattle.table.proofs.at.Reads as at-reads
 
--- src/lib.rt:255:24
 past-requires : tie.Need-past-requires
 past-requires c κs = search needs
 
--- src/lib.rt:255:36
 at-requires : tie.Need-at-requires
 at-requires c κs = search needs
 
--- src/lib.rt:255:36
 cast-first : tie.Need-cast-first
 cast-first c = search needs
 
--- src/lib.rt:255:9
 first-requires : tie.Need-first-requires
 first-requires c κs = search needs
 
--- src/lib.rt:256:10
 whole-part-requires : tie.Need-whole-part-requires
 whole-part-requires c κs = search needs
 
--- src/lib.rt:256:42
 at-requires-2 : tie.Need-at-requires-2
 at-requires-2 c κs = search needs
 
--- src/lib.rt:256:25
 holds-requires : tie.Need-holds-requires
 holds-requires c κs = search needs
 
--- src/lib.rt:256:5
 both-requires : tie.Need-both-requires
 both-requires c κs = search needs
 
--- src/lib.rt:252:1
 returns : tie.Need-returns
 unfolding partRight
 returns c = cc

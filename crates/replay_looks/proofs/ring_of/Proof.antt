@@ -2,71 +2,49 @@ use Rattle.replay_looks.proofs.Asked.{kind-0, kind-1, kind-2, kind-3, k
 use borrow.Author.Needs.{needs}
 use Rattle.replay_looks.proofs.ring_of.Statement.{statement}
 use Rattle.replay_looks.proofs.ring_of.Tie as tie
-use Rattle.replay_looks.proofs.ring_of.Reads as reads
-use Rattle.replay_looks.proofs.ring_of.Lts as lts
-use Rattle.traversal.proofs.ring_bounding_edges.Reads as ring-bounding-edges-reads
-use Rattle.traversal.proofs.ring_corners.Reads as ring-corners-reads
-use Rattle.traversal.proofs.ring_edges.Reads as ring-edges-reads
-use Rattle.traversal.proofs.ring_faces.Reads as ring-faces-reads
-use Rattle.traversal.proofs.ring_vertices.Reads as ring-vertices-reads
 
--- src/lib.rt:125:9
 ring-corners-requires : tie.Need-ring-corners-requires
 ring-corners-requires c κs = search needs
 
--- src/lib.rt:125:9
 same-length : tie.Need-same-length
 same-length c = search needs
 
--- src/lib.rt:125:9
 returns : tie.Need-returns
 returns c = rw (kind-0 _ (c .before .before .before .before .if1 .taken)) (c .before .before .ring-corners .ensures)
 
--- src/lib.rt:128:9
 ring-vertices-requires : tie.Need-ring-vertices-requires
 ring-vertices-requires c κs = search needs
 
--- src/lib.rt:128:9
 same-length-2 : tie.Need-same-length-2
 same-length-2 c = search needs
 
--- src/lib.rt:128:9
 returns-2 : tie.Need-returns-2
 returns-2 c = rw (kind-1 _ (c .before .before .before .before .if2 .taken)) (c .before .before .ring-vertices .ensures)
 
--- src/lib.rt:131:9
 ring-faces-requires : tie.Need-ring-faces-requires
 ring-faces-requires c κs = search needs
 
--- src/lib.rt:131:9
 same-length-3 : tie.Need-same-length-3
 same-length-3 c = search needs
 
--- src/lib.rt:131:9
 returns-3 : tie.Need-returns-3
 returns-3 c = rw (kind-2 _ (c .before .before .before .before .if3 .taken)) (c .before .before .ring-faces .ensures)
 
--- src/lib.rt:134:9
 ring-edges-requires : tie.Need-ring-edges-requires
 ring-edges-requires c κs = search needs
 
--- src/lib.rt:134:9
 same-length-4 : tie.Need-same-length-4
 same-length-4 c = search needs
 
--- src/lib.rt:134:9
 returns-4 : tie.Need-returns-4
 returns-4 c = rw (kind-3 _ (c .before .before .before .before .if4 .taken)) (c .before .before .ring-edges .ensures)
 
--- src/lib.rt:136:5
 ring-bounding-edges-requires : tie.Need-ring-bounding-edges-requires
 ring-bounding-edges-requires c κs = search needs
 
--- src/lib.rt:110:1
 same-length-5 : tie.Need-same-length-5
 same-length-5 c = search needs
 
--- src/lib.rt:110:1
 returns-5 : tie.Need-returns-5
 returns-5 c = rw (kind-4 _ (c .before .before .before .before .before .before .before .if1 .left) (c .before .before .before .before .before .before .if2 .left) (c .before .before .before .before .before .if3 .left) (c .before .before .before .before .if4 .left)) (c .before .before .ring-bounding-edges .ensures)
 

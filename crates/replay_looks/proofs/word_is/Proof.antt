@@ -2,19 +2,13 @@ use Rattle.replay_looks.specs.Judge.{wordIs}
 use borrow.Author.Needs.{needs}
 use Rattle.replay_looks.proofs.word_is.Statement.{statement}
 use Rattle.replay_looks.proofs.word_is.Tie as tie
-use Rattle.replay_looks.proofs.word_is.Reads as reads
-use Rattle.replay_looks.proofs.word_is.Lts as lts
-use Rattle.table.proofs.at.Reads as at-reads
 
--- src/lib.rt:27:5
 at-requires : tie.Need-at-requires
 at-requires c κs = search needs
 
--- src/lib.rt:27:5
 cast-result : tie.Need-cast-result
 cast-result c = search needs
 
--- src/lib.rt:24:1
 returns : tie.Need-returns
 unfolding wordIs
 returns c = cc

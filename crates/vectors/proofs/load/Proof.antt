@@ -5,9 +5,6 @@ use native.Mathlib.Omega.{arith}
 use Prim.Native.Nat.{_≤_, _-_, _*_}
 use Rattle.vectors.proofs.load.Statement.{statement}
 use Rattle.vectors.proofs.load.Tie as tie
-use Rattle.vectors.proofs.load.Reads as reads
-use Rattle.vectors.proofs.load.Lts as lts
-use Rattle.vectors.proofs.load_some.Reads as load-some-reads
 
 abbrev Inv-loop : tie.InvT-loop
 Inv-loop fd words₀ n₀ turn₀ words n turn = (n ≤ 16384 * turn) × (turn ≤ 25) × (length words ≡ length words₀)
@@ -15,35 +12,27 @@ Inv-loop fd words₀ n₀ turn₀ words n turn = (n ≤ 16384 * turn) × (turn �
 abbrev μ-loop : tie.MeasureT-loop
 μ-loop fd words₀ n₀ turn₀ words n turn = 25 - turn
 
--- src/main.rt:34:5
 loop-holds : tie.Need-loop-holds Inv-loop μ-loop
 loop-holds c = (omega arith, omega arith, refl)
 
--- src/main.rt:35:14
 load-some-requires : tie.Need-load-some-requires Inv-loop μ-loop
 load-some-requires c κs = search needs
 
--- src/main.rt:35:9
 add-n : tie.Need-add-n Inv-loop μ-loop
 add-n c = omega arith
 
--- src/main.rt:36:9
 add-turn : tie.Need-add-turn Inv-loop μ-loop
 add-turn c = omega arith
 
--- src/main.rt:34:5
 loop-less : tie.Need-loop-less Inv-loop μ-loop
 loop-less c = omega arith
 
--- src/main.rt:34:5
 loop-again : tie.Need-loop-again Inv-loop μ-loop
 loop-again c = (omega arith, omega arith, c .before .before .load-some .kept .1 .1 .0 ∙ c .before .before .before .before .before .loop .inv .2)
 
--- src/main.rt:29:1
 same-length : tie.Need-same-length Inv-loop μ-loop
 same-length c = c .before .loop .inv .2
 
--- src/main.rt:29:1
 returns : tie.Need-returns Inv-loop μ-loop
 returns c = omega arith
 

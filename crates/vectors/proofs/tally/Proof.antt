@@ -1,19 +1,10 @@
 use lib.ListN.{length}
-use mathlib.Core.Path.{_≡_, refl, _∙_}
+use mathlib.Core.Path.{_≡_, refl}
 use borrow.Author.Needs.{needs}
 use native.Mathlib.Omega.{arith}
 use Prim.Native.Nat.{_≤_, _-_}
 use Rattle.vectors.proofs.tally.Statement.{statement}
 use Rattle.vectors.proofs.tally.Tie as tie
-use Rattle.vectors.proofs.tally.Reads as reads
-use Rattle.vectors.proofs.tally.Lts as lts
-use Rattle.records.proofs.bump.Reads as bump-reads
-use Rattle.records.proofs.first.Reads as first-reads
-use Rattle.records.proofs.least.Reads as least-reads
-use Rattle.records.proofs.past.Reads as past-reads
-use Rattle.table.proofs.at.Reads as at-reads
-use Rattle.vectors.proofs.note_run.Reads as note-run-reads
-use Rattle.vectors.proofs.place.Reads as place-reads
 
 abbrev Inv-loop : tie.InvT-loop
 Inv-loop words ops₀ answers₀ end from₀ ops answers from = (end ≤ 409600) × (length ops ≡ length ops₀) × (length answers ≡ length answers₀)
@@ -21,87 +12,66 @@ Inv-loop words ops₀ answers₀ end from₀ ops answers from = (end ≤ 409600)
 abbrev μ-loop : tie.MeasureT-loop
 μ-loop words ops₀ answers₀ end from₀ ops answers from = end - from
 
--- src/main.rt:177:9
 least-requires : tie.Need-least-requires Inv-loop μ-loop
 least-requires c κs = search needs
 
--- src/main.rt:179:5
 loop-holds : tie.Need-loop-holds Inv-loop μ-loop
 loop-holds c = (omega arith, refl, refl)
 
--- src/main.rt:180:13
 at-requires : tie.Need-at-requires Inv-loop μ-loop
 at-requires c κs = search needs
 
--- src/main.rt:181:27
 add-at : tie.Need-add-at Inv-loop μ-loop
 add-at c = omega arith
 
--- src/main.rt:181:17
 at-requires-2 : tie.Need-at-requires-2 Inv-loop μ-loop
 at-requires-2 c κs = search needs
 
--- src/main.rt:181:17
 cast-n : tie.Need-cast-n Inv-loop μ-loop
 cast-n c = search needs
 
--- src/main.rt:182:35
 add-past : tie.Need-add-past Inv-loop μ-loop
 add-past c = omega arith
 
--- src/main.rt:182:23
 past-requires : tie.Need-past-requires Inv-loop μ-loop
 past-requires c κs = search needs
 
--- src/main.rt:182:13
 first-requires : tie.Need-first-requires Inv-loop μ-loop
 first-requires c κs = search needs
 
--- src/main.rt:183:9
 bump-requires : tie.Need-bump-requires Inv-loop μ-loop
 bump-requires c κs = search needs
 
--- src/main.rt:184:29
 place-requires : tie.Need-place-requires Inv-loop μ-loop
 place-requires c κs = search needs
 
--- src/main.rt:184:23
 at-requires-3 : tie.Need-at-requires-3 Inv-loop μ-loop
 at-requires-3 c κs = search needs
 
--- src/main.rt:184:9
 bump-requires-2 : tie.Need-bump-requires-2 Inv-loop μ-loop
 bump-requires-2 c κs = search needs
 
--- src/main.rt:185:9
 note-run-requires : tie.Need-note-run-requires Inv-loop μ-loop
 note-run-requires c κs = search needs
 
--- src/main.rt:186:17
 add-from : tie.Need-add-from Inv-loop μ-loop
 add-from c = omega arith
 
--- src/main.rt:186:9
 add-from-2 : tie.Need-add-from-2 Inv-loop μ-loop
 add-from-2 c = omega arith
 
--- src/main.rt:179:5
 loop-less : tie.Need-loop-less Inv-loop μ-loop
 loop-less c = omega arith
 
--- src/main.rt:179:5
 loop-again : tie.Need-loop-again Inv-loop μ-loop
 loop-again c = (omega arith, omega arith, omega arith)
 
--- src/main.rt:174:1
 same-length : tie.Need-same-length Inv-loop μ-loop
 same-length c = c .before .loop .inv .1
 
--- src/main.rt:174:1
 same-length-2 : tie.Need-same-length-2 Inv-loop μ-loop
 same-length-2 c = c .before .loop .inv .2
 
--- src/main.rt:174:1
 returns : tie.Need-returns Inv-loop μ-loop
 returns c = (c .before .loop .inv .1, c .before .loop .inv .2)
 
