@@ -45,6 +45,7 @@ module _ (test : ℕ → Bool) where
     where
       unlike : false ≡ true → ⊥
       unlike z = let y : _≡_ {A = ℕ} 0 1 = cc in omega arith
+
       below : (k n : ℕ) → k < suc n → (k ≡ n → ⊥) → k < n
       below k n h d = omega arith
 
@@ -93,6 +94,7 @@ module _ {A : Type 0} (l₀ : List A) (f : ℕ → A) where
     where
       inside : length l ≡ length l₀ → i < length l
       inside s = omega arith
+
       grow : take i l ≡ tabled i f → take i l ++ (x ∷ []) ≡ tabled i f ++ (f i ∷ [])
       grow p = cc
 
@@ -101,5 +103,6 @@ module _ {A : Type 0} (l₀ : List A) (f : ℕ → A) where
     where
       over : length l ≡ length l₀ → length l ≤ i
       over s = omega arith
+
       same : i ≤ length l₀ → i ≡ length l₀
       same z = omega arith

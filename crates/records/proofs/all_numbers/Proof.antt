@@ -8,9 +8,6 @@ use mathlib.Core.Bool.{true}
 use mathlib.Core.Path.{_≡_, sym, _∙_}
 use Rattle.records.proofs.all_numbers.Statement.{statement}
 use Rattle.records.proofs.all_numbers.Tie as tie
-use Rattle.records.proofs.all_numbers.Reads as reads
-use Rattle.records.proofs.all_numbers.Lts as lts
-use Rattle.records.proofs.same_number.Reads as same-number-reads
 
 abbrev Inv-loop : tie.InvT-loop
 Inv-loop l w rest k₀ k = (k ≤ length l) × (every k (sameNumber l w rest) ≡ true)
@@ -18,31 +15,24 @@ Inv-loop l w rest k₀ k = (k ≤ length l) × (every k (sameNumber l w rest) �
 abbrev μ-loop : tie.MeasureT-loop
 μ-loop l w rest k₀ k = length l - k
 
--- src/lib.rt:119:5
 loop-holds : tie.Need-loop-holds Inv-loop μ-loop
 loop-holds c = (omega arith, every-none _)
 
--- src/lib.rt:120:13
 same-number-requires : tie.Need-same-number-requires Inv-loop μ-loop
 same-number-requires c κs = search needs
 
--- src/lib.rt:122:13
 add-k : tie.Need-add-k Inv-loop μ-loop
 add-k c = omega arith
 
--- src/lib.rt:119:5
 loop-less : tie.Need-loop-less Inv-loop μ-loop
 loop-less c = omega arith
 
--- src/lib.rt:119:5
 loop-again : tie.Need-loop-again Inv-loop μ-loop
 loop-again c = (omega arith, every-more _ _ (c .before .before .before .loop .inv .1) (sym (c .before .same-number .ensures) ∙ c .if1 .taken))
 
--- src/lib.rt:124:13
 returns : tie.Need-returns Inv-loop μ-loop
 returns c = sym (every-fails _ _ (c .before .before .before .loop .k) (omega arith) (sym (c .before .same-number .ensures) ∙ c .if1 .left))
 
--- src/lib.rt:115:1
 returns-2 : tie.Need-returns-2 Inv-loop μ-loop
 returns-2 c = sym (every-all _ (c .before .loop .k) _ (c .before .loop .inv .1) (omega arith))
 

@@ -4,13 +4,9 @@ use lib.ListN.{length}
 use borrow.Author.Needs.{needs}
 use native.Mathlib.Omega.{arith}
 use Prim.Native.Nat.{_≤_, _-_, _/_}
-use mathlib.Core.Path.{_≡_, sym, refl, ap, _∙_}
+use mathlib.Core.Path.{_≡_, refl, ap, _∙_}
 use Rattle.records.proofs.decode.Statement.{statement}
 use Rattle.records.proofs.decode.Tie as tie
-use Rattle.records.proofs.decode.Reads as reads
-use Rattle.records.proofs.decode.Lts as lts
-use Rattle.records.proofs.word_at.Reads as word-at-reads
-use Rattle.table.proofs.put.Reads as put-reads
 
 abbrev Inv-loop : tie.InvT-loop
 Inv-loop s base words₀ n k₀ words k = (k ≤ n) × (n ≡ length s / 4) × (words ≡ written k base (wordNo s) words₀)
@@ -18,44 +14,34 @@ Inv-loop s base words₀ n k₀ words k = (k ≤ n) × (n ≡ length s / 4) × (
 abbrev μ-loop : tie.MeasureT-loop
 μ-loop s base words₀ n k₀ words k = n - k
 
--- src/lib.rt:39:5
 loop-holds : tie.Need-loop-holds Inv-loop μ-loop
 loop-holds c = (omega arith, refl, written-none _ _ _)
 
--- src/lib.rt:40:28
 mul-word-at : tie.Need-mul-word-at Inv-loop μ-loop
 mul-word-at c = omega arith
 
--- src/lib.rt:40:13
 word-at-requires : tie.Need-word-at-requires Inv-loop μ-loop
 word-at-requires c κs = omega arith
 
--- src/lib.rt:41:20
 add-put : tie.Need-add-put Inv-loop μ-loop
 add-put c = omega arith
 
--- src/lib.rt:41:9
 put-requires : tie.Need-put-requires Inv-loop μ-loop
 put-requires c κs = search needs
 
--- src/lib.rt:42:9
 add-k : tie.Need-add-k Inv-loop μ-loop
 add-k c = omega arith
 
--- src/lib.rt:39:5
 loop-less : tie.Need-loop-less Inv-loop μ-loop
 loop-less c = omega arith
 
--- src/lib.rt:39:5
 loop-again : tie.Need-loop-again Inv-loop μ-loop
 unfolding wordNo
 loop-again c = (omega arith, refl, written-more _ _ _ (c .before .before .before .before .before .before .loop .k) _ _ _ _ (c .before .before .before .before .before .before .loop .inv .2) (c .before .before .before .before .word-at .ensures) refl (c .before .before .put .ensures))
 
--- src/lib.rt:34:1
 same-length : tie.Need-same-length Inv-loop μ-loop
 same-length c = ap length (c .before .loop .inv .2) ∙ written-length _ _ _ _
 
--- src/lib.rt:34:1
 returns : tie.Need-returns Inv-loop μ-loop
 returns c = written-all _ _ _ (c .before .loop .k) _ _ (c .before .loop .inv .2) (omega arith)
 

@@ -4,18 +4,13 @@ use mathlib.Core.Path.{sym}
 use borrow.Author.Needs.{needs}
 use Rattle.records.proofs.first.Statement.{statement}
 use Rattle.records.proofs.first.Tie as tie
-use Rattle.records.proofs.first.Reads as reads
-use Rattle.records.proofs.first.Lts as lts
 
--- src/lib.rt:59:23
 slice-aggregate-result : tie.Need-slice-aggregate-result
 slice-aggregate-result c = sym (length-take-le _ _ (search needs))
 
--- src/lib.rt:56:1
 returns : tie.Need-returns
 returns c = search needs
 
--- src/lib.rt:56:1
 returns-2 : tie.Need-returns-2
 returns-2 c = whole-take _ _ (c .if1 .left)
 

@@ -1,23 +1,16 @@
 use Rattle.records.specs.Same.{holdNumbersOf}
 use borrow.Author.Tests.{le-leb, lt-leb}
-use mathlib.Core.Path.{_∙_}
 use borrow.Author.Needs.{needs}
 use Rattle.records.proofs.hold_numbers.Statement.{statement}
 use Rattle.records.proofs.hold_numbers.Tie as tie
-use Rattle.records.proofs.hold_numbers.Reads as reads
-use Rattle.records.proofs.hold_numbers.Lts as lts
-use Rattle.records.proofs.all_numbers.Reads as all-numbers-reads
 
--- src/lib.rt:142:9
 all-numbers-requires : tie.Need-all-numbers-requires
 all-numbers-requires c κs = search needs
 
--- src/lib.rt:142:9
 returns : tie.Need-returns
 unfolding holdNumbersOf
 returns c = simp (le-leb _ _ (c .before .if1 .taken)) (c .all-numbers .ensures)
 
--- src/lib.rt:138:1
 returns-2 : tie.Need-returns-2
 unfolding holdNumbersOf
 returns-2 c = simp (lt-leb _ _ (c .if1 .left))

@@ -1,23 +1,16 @@
 use Rattle.records.specs.Same.{holdsOf}
 use borrow.Author.Tests.{le-leb, lt-leb}
-use mathlib.Core.Path.{_∙_}
 use borrow.Author.Needs.{needs}
 use Rattle.records.proofs.holds.Statement.{statement}
 use Rattle.records.proofs.holds.Tie as tie
-use Rattle.records.proofs.holds.Reads as reads
-use Rattle.records.proofs.holds.Lts as lts
-use Rattle.records.proofs.all_words.Reads as all-words-reads
 
--- src/lib.rt:133:9
 all-words-requires : tie.Need-all-words-requires
 all-words-requires c κs = search needs
 
--- src/lib.rt:133:9
 returns : tie.Need-returns
 unfolding holdsOf
 returns c = simp (le-leb _ _ (c .before .if1 .taken)) (c .all-words .ensures)
 
--- src/lib.rt:129:1
 returns-2 : tie.Need-returns-2
 unfolding holdsOf
 returns-2 c = simp (lt-leb _ _ (c .if1 .left))

@@ -3,34 +3,25 @@ use Rattle.records.proofs.Loops.{rest-drop, none-drop}
 use borrow.Author.Needs.{needs}
 use Rattle.records.proofs.past.Statement.{statement}
 use Rattle.records.proofs.past.Tie as tie
-use Rattle.records.proofs.past.Reads as reads
-use Rattle.records.proofs.past.Lts as lts
 
--- src/lib.rt:52:23
 mul-result : tie.Need-mul-result
 mul-result c = search needs
 
--- src/lib.rt:52:23
 sub-result : tie.Need-sub-result
 sub-result c = search needs
 
--- src/lib.rt:52:23
 part-result-start : tie.Need-part-result-start
 part-result-start c = search needs
 
--- src/lib.rt:52:23
 part-result-end : tie.Need-part-result-end
 part-result-end c = search needs
 
--- src/lib.rt:52:40
 slice-aggregate-result : tie.Need-slice-aggregate-result
 slice-aggregate-result c = search needs
 
--- src/lib.rt:49:1
 returns : tie.Need-returns
 returns c = rest-drop (now (c .before .before .args .l)) (c .before .before .args .a)
 
--- src/lib.rt:49:1
 returns-2 : tie.Need-returns-2
 returns-2 c = none-drop _ _ (c .before .if1 .left)
 

@@ -1,17 +1,12 @@
 use Rattle.records.proofs.Loops.{Tabling, tabling-start, tabling-on, tabling-end}
 use Rattle.records.specs.Words.{numberNo}
-use lib.Ieee.{ofBits, binary32}
 use lib.ListN.{length}
 use borrow.Author.Needs.{needs}
 use native.Mathlib.Omega.{arith}
 use mathlib.Core.Path.{_≡_, refl}
-use Prim.Native.Nat.{_≤_, _-_}
+use Prim.Native.Nat.{_-_}
 use Rattle.records.proofs.put_numbers.Statement.{statement}
 use Rattle.records.proofs.put_numbers.Tie as tie
-use Rattle.records.proofs.put_numbers.Reads as reads
-use Rattle.records.proofs.put_numbers.Lts as lts
-use Rattle.table.proofs.at.Reads as at-reads
-use Rattle.vertex.proofs.float_of.Reads as float-of-reads
 
 abbrev Inv-loop : tie.InvT-loop
 Inv-loop w rest to₀ n k₀ to k = (n ≡ length to₀) × Tabling to₀ (numberNo w rest) to k
@@ -19,44 +14,34 @@ Inv-loop w rest to₀ n k₀ to k = (n ≡ length to₀) × Tabling to₀ (numbe
 abbrev μ-loop : tie.MeasureT-loop
 μ-loop w rest to₀ n k₀ to k = n - k
 
--- src/lib.rt:73:5
 loop-holds : tie.Need-loop-holds Inv-loop μ-loop
 loop-holds c = (refl, tabling-start _ _)
 
--- src/lib.rt:74:34
 at-requires : tie.Need-at-requires Inv-loop μ-loop
 at-requires c κs = search needs
 
--- src/lib.rt:74:13
 float-of-requires : tie.Need-float-of-requires Inv-loop μ-loop
 float-of-requires c κs = search needs
 
--- src/lib.rt:75:9
 mul-to : tie.Need-mul-to Inv-loop μ-loop
 mul-to c = search needs
 
--- src/lib.rt:75:9
 slice-write-to : tie.Need-slice-write-to Inv-loop μ-loop
 slice-write-to c = omega (arith, c .before .before .before .loop .inv .1 .size)
 
--- src/lib.rt:76:9
 add-k : tie.Need-add-k Inv-loop μ-loop
 add-k c = omega arith
 
--- src/lib.rt:73:5
 loop-less : tie.Need-loop-less Inv-loop μ-loop
 loop-less c = omega arith
 
--- src/lib.rt:73:5
 loop-again : tie.Need-loop-again Inv-loop μ-loop
 unfolding numberNo
 loop-again c = (refl, tabling-on _ _ _ _ _ (c .before .before .before .loop .inv .1) (omega arith) (cc))
 
--- src/lib.rt:68:1
 same-length : tie.Need-same-length Inv-loop μ-loop
 same-length c = c .before .loop .inv .1 .size
 
--- src/lib.rt:68:1
 returns : tie.Need-returns Inv-loop μ-loop
 returns c = tabling-end _ _ _ _ (c .before .loop .inv .1) (omega arith)
 

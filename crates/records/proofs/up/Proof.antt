@@ -2,18 +2,13 @@ use borrow.Author.Tests.{lt-ltb, le-ltb}
 use borrow.Author.Needs.{needs}
 use Rattle.records.proofs.up.Statement.{statement}
 use Rattle.records.proofs.up.Tie as tie
-use Rattle.records.proofs.up.Reads as reads
-use Rattle.records.proofs.up.Lts as lts
 
--- src/lib.rt:168:25
 add-result : tie.Need-add-result
 add-result c = search needs
 
--- src/lib.rt:165:1
 returns : tie.Need-returns
 returns c = simp (lt-ltb _ _ (c .if1 .taken))
 
--- src/lib.rt:165:1
 returns-2 : tie.Need-returns-2
 returns-2 c = simp (le-ltb _ _ (c .if1 .left))
 

@@ -1,0 +1,46 @@
+use Rattle.replay_looks.specs.Look.{pointsRight}
+use borrow.Author.Needs.{needs}
+use Rattle.replay_looks.proofs.points_right.Statement.{statement}
+use Rattle.replay_looks.proofs.points_right.Tie as tie
+
+past-requires : tie.Need-past-requires
+past-requires c κs = search needs
+
+at-requires : tie.Need-at-requires
+at-requires c κs = search needs
+
+cast-first : tie.Need-cast-first
+cast-first c = search needs
+
+first-requires : tie.Need-first-requires
+first-requires c κs = search needs
+
+whole-part-requires : tie.Need-whole-part-requires
+whole-part-requires c κs = search needs
+
+at-requires-2 : tie.Need-at-requires-2
+at-requires-2 c κs = search needs
+
+hold-numbers-requires : tie.Need-hold-numbers-requires
+hold-numbers-requires c κs = search needs
+
+both-requires : tie.Need-both-requires
+both-requires c κs = search needs
+
+returns : tie.Need-returns
+unfolding pointsRight
+returns c = cc
+
+pub points-right-spec : {M : Type 1} → statement M
+points-right-spec =
+    tie.close
+    (tie.spec
+    past-requires
+    at-requires
+    cast-first
+    first-requires
+    whole-part-requires
+    at-requires-2
+    hold-numbers-requires
+    both-requires
+    returns)
