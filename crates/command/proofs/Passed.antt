@@ -5,7 +5,7 @@ use mathlib.Core.Logic.{_≢_}
 use mathlib.Core.Bool.{Bool, true, false, cond, not, false≢true}
 use native.Mathlib.Omega.{arith}
 use native.Mathlib.Decide.{ℕ-discrete}
-use borrow.Author.Tests.{eq-eqb, ne-eqb, eqb-true, eqb-false, ltb-true, ltb-false}
+use borrow.Author.Tests.{eq-eqb, ne-eqb, eqb-true, eqb-false, ltb-true, ltb-false, not-false}
 use lib.Dec.{eqb, ltb}
 use Rattle.corner.specs.Corner.{absent, firstCorner}
 use Rattle.vertex.specs.declared.Point.{Point}
@@ -22,10 +22,6 @@ use Rattle.command.specs.declared.Edit.the-variants.{Collapse, Flip, Spl
 use Rattle.command.specs.Answers.{first, when, targeted, roomFor, cornerTarget, faceTarget, notFinite, noRoom, noOpposite, sameWings, collapseAnswer, flipAnswer, splitEdgeAnswer, splitFaceAnswer, answer}
 use Rattle.command.specs.Step.{effect, step}
 use Rattle.command.proofs.Chain.{first-left, first-right, when-false}
-
-not-false : (b : Bool) → not b ≡ false → b ≡ true
-not-false true e = refl
-not-false false e = absurd (false≢true (sym e))
 
 -- ---- each check, passed
 

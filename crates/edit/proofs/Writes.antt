@@ -17,9 +17,6 @@ use Rattle.edit.specs.Collapse.{winged, either, collapseVertices, collap
 
 -- ---- new slots
 
-pub three-made : (l : List ℕ) (n a b c : ℕ) {l1 l2 l3 : List ℕ} → l1 ≡ set l n a → l2 ≡ set l1 (n + 1) b → l3 ≡ set l2 (n + 2) c → l3 ≡ three l n a b c
-three-made l n a b c h1 h2 h3 = rw (h3, h2, h1)
-
 pub six-made : (l : List ℕ) (n a b c d e f : ℕ) {l1 l2 : List ℕ} → l1 ≡ three l n a b c → l2 ≡ three l1 (n + 3) d e f → l2 ≡ six l n a b c d e f
 six-made l n a b c d e f h1 h2 = rw (h2, h1)
 

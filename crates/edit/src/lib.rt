@@ -17,6 +17,7 @@ ghost use Rattle.edit.specs.Collapse.{winged, either as eitherOf, collap
 use corner::Corner;
 use corner::Face;
 use table::Counts;
+use table::put_three;
 use vertex::Point;
 use vertex::Vertex;
 
@@ -96,15 +97,6 @@ fn read_around(cv: &[u32], co: &[u32], c1: Corner) -> Around
 }
 
 // ---- new slots of one part, from n on
-
-fn put_three(l: &mut [u32], n: u32, a: u32, b: u32, c: u32)
-    ensures { λ r. ⌜ now (l .exit) ≡ three (now (l .entry)) n a b c ⌝ }
-{
-    let i = n as usize;
-    table::put(l, i, a);
-    table::put(l, i + 1, b);
-    table::put(l, i + 2, c);
-}
 
 // Two new faces.
 fn put_six(l: &mut [u32], n: u32, a: u32, b: u32, c: u32, d: u32, e: u32, f: u32)

@@ -11,7 +11,7 @@ use Rattle.table.specs.Rules.{Mate}
 use Rattle.fan.proofs.Fan.{swingL, Left, Conn, stay, fore, back, conn-trans, conn-sym, conn-eq, simulate, Linked, OneFan, mate-sym, mate-at, linked, left-live, left-vertex, face-previous, opp-not-self, opp-not-next, opp-not-previous, opp-of}
 use Rattle.fan.proofs.Walk.{Moves, it, Stop, border, closes, Walk, walk}
 use Rattle.fan.proofs.Ring.{stuckL, lefts}
-use Rattle.keeps.proofs.Cut.{Face3}
+use Rattle.keeps.proofs.SplitFace.{Face3}
 use Rattle.fan.proofs.Redirect.{at, at-same, at-other}
 
 turned : {a b : ℕ} → a ≢ b → b ≢ a

@@ -13,7 +13,7 @@ use Rattle.corner.proofs.Turns.{next-next, next-previous, previous-next, next-b
 use Rattle.corner.specs.Corner.{absent}
 use Rattle.table.specs.Rules.{Mate}
 use Rattle.fan.proofs.Fan.{Linked, OneFan, linked, opp-of, face-previous}
-use Rattle.keeps.proofs.Cut.{Face3, face3}
+use Rattle.keeps.proofs.SplitFace.{Face3, face3}
 use Rattle.keeps.proofs.Collapse.{MergeSite, Merge, Six, is24, is25, is26, is9, is10, is11, six?, six-next, off-next, off-previous, collapse-linked, collapse-fan, l25, l26, l9, l10, l11, l21, l28, l6, l13, s21, s28, s6, s13, b21, b28, b6, b13, t25, t26, t10, t11, e8, e9, d78, d89, d97, d39, d38, x24-25, x25-26, x26-24, x9-10, x10-11, x11-9, x26-10, x26-11, x25-10, x25-11}
 use Rattle.fan.proofs.Redirect.{at, at-same, at-other, at-ind, Seen, set-seen}
 use Rattle.table.specs.Slots.{relabel}

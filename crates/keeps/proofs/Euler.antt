@@ -6,9 +6,10 @@ use mathlib.Core.Bool.{Bool, true, false, cond, not, _&&_, false≢true}
 use Prim.Native.Nat.{ℕ, zero, suc, _+_, _*_, _≤_, _<_, _/_}
 use native.Mathlib.Omega.{arith}
 use native.Mathlib.Decide.{ℕ-discrete}
-use borrow.Author.Tests.{eq-eqb, ne-eqb, eqb-true, eqb-false}
+use borrow.Author.Tests.{eq-eqb, ne-eqb, eqb-true, eqb-false, not-true}
 use lib.Dec.{eqb}
 use Rattle.corner.specs.Corner.{absent}
+use Rattle.table.proofs.Shape.{and-true}
 use Rattle.table.specs.Table.{Table, opposite, Live, LiveVertex, live}
 use Rattle.table.specs.Euler.{count, vertexCount, faceCount, bareCount, pairedCount, edgeCount, SameEuler}
 use Rattle.table.proofs.Lives.{live-true, true-live}
@@ -73,14 +74,6 @@ count-sum (suc n) test d f g =
     let a = count-sum n test d f g in
     let b = one-or-none (test n) (d n) (f n) (g n) in
     omega arith
-
-and-true : (a b : Bool) → a && b ≡ true → (a ≡ true) × (b ≡ true)
-and-true true b e = (refl, e)
-and-true false b e = absurd (false≢true e)
-
-not-true : (b : Bool) → not b ≡ true → b ≡ false
-not-true true e = sym e
-not-true false e = refl
 
 module _ (t : Table) where
   live-c : (c : ℕ) → live (t .cornerMark) (t .corners) c ≡ true → Live t c

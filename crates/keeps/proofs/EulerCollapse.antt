@@ -24,7 +24,7 @@ use Rattle.table.specs.Euler.{SameEuler}
 use Rattle.edit.specs.Plans.{around}
 use Rattle.edit.specs.Collapse.{winged, either, collapseVertices, collapseOpposites, collapseMarks, collapseCorners, collapseEdge}
 use Rattle.fan.proofs.Tables.{table-linked}
-use Rattle.keeps.proofs.Cut.{face3}
+use Rattle.keeps.proofs.SplitFace.{face3}
 use Rattle.keeps.proofs.CollapseTable.{u, keep, kept, gone, the-merge, stays, stayed, Safe, about, winged-left, either-left, site, co′, cv′, cm′, vc′, vm′}
 
 module _ {live live′ : ℕ → Type 0} {opposite opposite′ vertex vertex′ : ℕ → ℕ} {c24 c25 c26 c9 c10 c11 c21 c28 c6 c13 : ℕ}

@@ -7,7 +7,7 @@ use native.Mathlib.Decide.{ℕ-discrete}
 use Rattle.corner.specs.Corner.{next, previous}
 use Rattle.corner.specs.Corner.{absent}
 use Rattle.fan.proofs.Fan.{Linked}
-use Rattle.keeps.proofs.Cut.{face3}
+use Rattle.keeps.proofs.SplitFace.{face3}
 use Rattle.keeps.proofs.Collapse.{Six, is24, is25, is26, is9, is10, is11, six?}
 use Rattle.keeps.proofs.Count.{sum, sum-ext, sum-round, ind, ind-yes, ind-no, ind-iff}
 use Rattle.keeps.proofs.Flip.{FlipSite, Flip, Out, by5, by0, by2, by3, far, out, l2, l0, l4, l5, l3, b4, x2-0, x2-3, x2-5, x0-5, x0-3, x5-3}

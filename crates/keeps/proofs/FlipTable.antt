@@ -11,7 +11,7 @@ use Rattle.corner.proofs.Turns.{next-next, next-previous, previous-next}
 use Rattle.corner.specs.Corner.{absent}
 use Rattle.table.specs.Rules.{Mate}
 use Rattle.fan.proofs.Fan.{Linked, OneFan, linked, opp-of}
-use Rattle.keeps.proofs.Cut.{Face3, face3}
+use Rattle.keeps.proofs.SplitFace.{Face3, face3}
 use Rattle.keeps.proofs.Collapse.{Six, is24, is25, is26, is9, is10, is11, six?}
 use Rattle.fan.proofs.Redirect.{at, at-same, at-other, at-ind, Seen, set-seen}
 use Rattle.keeps.proofs.Flip.{FlipSite, Flip, flip-linked, flip-fan, l2, l0, l4, l5, l3, b4, s0, s2, s3, s5, x1-2, x2-0, x0-1, x4-5, x5-3, x3-4, x1-4, x1-5, x1-3, x2-4, x2-5, x2-3, x0-4, x0-5, x0-3}

@@ -36,7 +36,7 @@ module _ (cv co cm vc vm vp : ℕ) where
           unfolding shapedBy
           point-part h = rw (le-leb cm maxCorners a, le-leb vm maxVertices b, eq-eqb cv cm c, eq-eqb co cm d, eq-eqb vc vm h)
 
-and-true : (a b : Bool) → a && b ≡ true → (a ≡ true) × (b ≡ true)
+pub and-true : (a b : Bool) → a && b ≡ true → (a ≡ true) × (b ≡ true)
 and-true true b e = (refl, e)
 and-true false b e = absurd (false≢true e)
 

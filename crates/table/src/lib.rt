@@ -148,7 +148,7 @@ pub fn set_mark(marks: &mut [u32], i: u32, mark: u32)
 
 // ---- new slots, at the count
 
-fn put_three(l: &mut [u32], n: u32, a: u32, b: u32, c: u32)
+pub fn put_three(l: &mut [u32], n: u32, a: u32, b: u32, c: u32)
     ensures { λ r. ⌜ now (l .exit) ≡ three (now (l .entry)) n a b c ⌝ }
 {
     let i = n as usize;

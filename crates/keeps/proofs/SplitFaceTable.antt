@@ -12,7 +12,7 @@ use Rattle.corner.specs.Corner.{next, previous}
 use Rattle.corner.proofs.Turns.{next-differs, previous-differs, next-next}
 use Rattle.corner.specs.Corner.{absent, firstCorner}
 use Rattle.fan.proofs.Fan.{Linked, OneFan, opp-of, face-previous, opp-not-self, opp-not-next, opp-not-previous}
-use Rattle.keeps.proofs.Cut.{Face3, face3, Cut, cut-linked, cut-fan}
+use Rattle.keeps.proofs.SplitFace.{Face3, face3, Cut, cut-linked, cut-fan}
 use Rattle.fan.proofs.Redirect.{at, at-same, at-other, at-ind, Seen, set-seen}
 use Rattle.vertex.specs.declared.Point.{Point}
 use Rattle.vertex.specs.Point.{finitePoint}
@@ -21,9 +21,9 @@ use Rattle.table.specs.Rules.{WellFormed}
 use Rattle.table.specs.Slots.{paired, pointAt, withPoint}
 use Rattle.fan.proofs.Tables.{table-linked, table-fan, fan-table, inside}
 use Rattle.keeps.proofs.Writes.{paired-seen, push6, push6-seen, push6-old, six-push6}
-use Rattle.keeps.proofs.Split.{in-six}
-use Rattle.keeps.proofs.Grow6.{Live6, grow, fresh, shrink, corner-marks, face-marks, next6, next7, next9, next10}
-use Rattle.keeps.proofs.Grow1.{LiveV1, old-vertex, new-one, was-vertex, vertex-marks, placed-finite}
+use Rattle.keeps.proofs.SplitInner.{in-six}
+use Rattle.keeps.proofs.NewFaces.{Live6, grow, fresh, shrink, corner-marks, face-marks, next6, next7, next9, next10}
+use Rattle.keeps.proofs.NewVertex.{LiveV1, old-vertex, new-one, was-vertex, vertex-marks, placed-finite}
 use Rattle.edit.specs.Plans.{triangle}
 use Rattle.edit.specs.SplitFace.{six, faceVertices, faceOpposites, faceCorners, splitFace}
 

@@ -10,9 +10,9 @@ use Rattle.corner.specs.Corner.{next, previous}
 use Rattle.corner.proofs.Turns.{next-previous, next-three}
 use Rattle.corner.specs.Corner.{absent}
 use Rattle.fan.proofs.Fan.{Linked, face-previous}
-use Rattle.keeps.proofs.Cut.{Face3, face3}
+use Rattle.keeps.proofs.SplitFace.{Face3, face3}
 use Rattle.fan.proofs.Redirect.{at, at-ind}
-use Rattle.keeps.proofs.Rim.{Rim, rim-linked}
+use Rattle.keeps.proofs.SplitBorder.{Rim, rim-linked}
 use Rattle.keeps.proofs.Count.{sum, sum-one, sum-ext, sum-at, ind, ind-yes, ind-no, ind-iff}
 use Rattle.keeps.proofs.Euler.{same-euler, live?, bare, paired, bare?, paired?, liveV?, edges, faces, vertices}
 use Rattle.table.specs.Table.{Table, Live, LiveVertex, opposite, vertex, Shaped}
@@ -26,9 +26,9 @@ use Rattle.table.specs.Slots.{pointAt, withPoint}
 use Rattle.table.specs.Euler.{SameEuler}
 use Rattle.edit.specs.Plans.{triangle}
 use Rattle.edit.specs.SplitEdge.{splitPoints, splitCorners, boundaryVertices, boundaryOpposites, splitBoundaryEdge}
-use Rattle.keeps.proofs.Grow1.{LiveV1, old-vertex, new-one, was-vertex, split-finite}
+use Rattle.keeps.proofs.NewVertex.{LiveV1, old-vertex, new-one, was-vertex, split-finite}
 use Rattle.fan.proofs.Tables.{table-linked}
-use Rattle.keeps.proofs.RimTable.{t′, the-rim, cs, cv′, co′, vc′}
+use Rattle.keeps.proofs.SplitBorderTable.{t′, the-rim, cs, cv′, co′, vc′}
 
 sum-three : (n : ℕ) (f : ℕ → ℕ) → sum (n + 3) f ≡ sum n f + f n + f (n + 1) + f (n + 2)
 sum-three n f = simp towards-suc

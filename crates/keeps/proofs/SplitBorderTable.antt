@@ -12,8 +12,8 @@ use Rattle.corner.specs.Corner.{next, previous}
 use Rattle.corner.proofs.Turns.{next-below, next-first, next-second, next-last, next-previous, next-three}
 use Rattle.corner.specs.Corner.{absent}
 use Rattle.fan.proofs.Fan.{Linked, OneFan, opp-of, opp-not-self, face-previous}
-use Rattle.keeps.proofs.Cut.{Face3, face3}
-use Rattle.keeps.proofs.Rim.{Rim, rim-linked, rim-fan}
+use Rattle.keeps.proofs.SplitFace.{Face3, face3}
+use Rattle.keeps.proofs.SplitBorder.{Rim, rim-linked, rim-fan}
 use Rattle.fan.proofs.Redirect.{at, at-same, at-other, at-ind, Seen, set-seen}
 use Rattle.table.specs.Slots.{relabel}
 use Rattle.fan.proofs.Relabel.{relabel-in, relabel-out}
@@ -30,7 +30,7 @@ use Rattle.table.specs.Rules.{WellFormed}
 use Rattle.table.specs.Slots.{paired, three, markAt, pointAt}
 use Rattle.fan.proofs.Tables.{table-linked, table-fan, fan-table}
 use Rattle.keeps.proofs.Writes.{paired-seen, three-seen, three-old, in-three, marks-grown}
-use Rattle.keeps.proofs.Grow1.{LiveV1, old-vertex, new-one, was-vertex, vertex-marks, split-finite}
+use Rattle.keeps.proofs.NewVertex.{LiveV1, old-vertex, new-one, was-vertex, vertex-marks, split-finite}
 
 module _ (t : Table) (Z : Shaped t) (W : WellFormed t) (room : t .corners + 3 ≤ length (t .cornerMark)) (vroom : t .vertices + 1 ≤ length (t .vertexMark))
     (c1 c2 c0 : ℕ) (f : Face3 c1 c2 c0) (l1 : Live t c1) (l2 : Live t c2) (l0 : Live t c0) (bd : opposite t c1 ≡ absent)

@@ -9,7 +9,7 @@ use Rattle.corner.proofs.Turns.{next-previous, previous-next}
 use Rattle.corner.specs.Corner.{absent}
 use Rattle.table.specs.Rules.{Mate}
 use Rattle.fan.proofs.Fan.{Left, Conn, stay, fore, conn-trans, conn-sym, conn-eq, simulate, Linked, OneFan, mate-sym, mate-at, linked, face-previous, opp-not-self, opp-not-next, opp-not-previous, opp-of}
-use Rattle.keeps.proofs.Cut.{Face3}
+use Rattle.keeps.proofs.SplitFace.{Face3}
 use Rattle.fan.proofs.Redirect.{at, at-same, at-other}
 
 -- what a border edge split reads and writes. Face c1 c2 c0; new: c3 c4 c5, vertex u

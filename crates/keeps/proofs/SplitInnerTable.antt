@@ -14,7 +14,7 @@ use Rattle.corner.proofs.Turns.{next-next, next-previous, previous-next, next-b
 use Rattle.corner.specs.Corner.{absent}
 use Rattle.table.specs.Rules.{Mate}
 use Rattle.fan.proofs.Fan.{Linked, OneFan, linked, opp-of, face-previous, opp-not-self}
-use Rattle.keeps.proofs.Cut.{Face3, face3}
+use Rattle.keeps.proofs.SplitFace.{Face3, face3}
 use Rattle.fan.proofs.Redirect.{at, at-same, at-other, at-ind, Seen, set-seen}
 use Rattle.table.specs.Slots.{relabel}
 use Rattle.fan.proofs.Relabel.{relabel-in, relabel-out, length-relabel}
@@ -31,9 +31,9 @@ use Rattle.table.specs.Rules.{WellFormed}
 use Rattle.table.specs.Slots.{paired, pointAt}
 use Rattle.fan.proofs.Tables.{below-absent, table-linked, table-fan, fan-table, inside}
 use Rattle.keeps.proofs.Writes.{paired-seen, push6, push6-seen, push6-old, six-push6}
-use Rattle.keeps.proofs.Grow6.{grow, fresh, shrink, corner-marks, face-marks, next6, next7, next9, next10}
-use Rattle.keeps.proofs.Grow1.{LiveV1, old-vertex, new-one, was-vertex, vertex-marks, split-finite}
-use Rattle.keeps.proofs.Split.{SplitSite, Split, split-linked, split-fan, in-six, l2, l0, l4, l5, l3, b4, v5, v3, d12, d20, d01, d42, x0-5, x2-3}
+use Rattle.keeps.proofs.NewFaces.{grow, fresh, shrink, corner-marks, face-marks, next6, next7, next9, next10}
+use Rattle.keeps.proofs.NewVertex.{LiveV1, old-vertex, new-one, was-vertex, vertex-marks, split-finite}
+use Rattle.keeps.proofs.SplitInner.{SplitSite, Split, split-linked, split-fan, in-six, l2, l0, l4, l5, l3, b4, v5, v3, d12, d20, d01, d42, x0-5, x2-3}
 
 module _ (t : Table) (Z : Shaped t) (W : WellFormed t) (room : t .corners + 6 ≤ length (t .cornerMark)) (vroom : t .vertices + 1 ≤ length (t .vertexMark))
     (c1 c2 c0 c4 c5 c3 : ℕ) (A : SplitSite (Live t) (opposite t) (vertex t) c1 c2 c0 c4 c5 c3)

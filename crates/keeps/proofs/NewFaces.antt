@@ -12,7 +12,7 @@ use Rattle.fan.proofs.Redirect.{at, at-same, at-other, at-ind, Seen, set-seen}
 use Rattle.table.specs.Slots.{markAt}
 use Rattle.table.specs.Table.{Table, Live, LiveVertex, Shaped}
 use Rattle.table.specs.Rules.{WellFormed}
-use Rattle.keeps.proofs.Split.{in-six}
+use Rattle.keeps.proofs.SplitInner.{in-six}
 use Rattle.keeps.proofs.Writes.{push6, push6-seen, push6-old, marks-grown}
 
 abbrev pub Live6 : Table → ℕ → Type 0

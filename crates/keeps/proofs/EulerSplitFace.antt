@@ -9,10 +9,10 @@ use Rattle.corner.specs.Corner.{next, previous}
 use Rattle.corner.proofs.Turns.{next-differs}
 use Rattle.corner.specs.Corner.{absent, firstCorner}
 use Rattle.fan.proofs.Fan.{Linked, opp-of}
-use Rattle.keeps.proofs.Cut.{Face3, face3, Cut, cut-linked}
+use Rattle.keeps.proofs.SplitFace.{Face3, face3, Cut, cut-linked}
 use Rattle.keeps.proofs.Count.{sum, sum-one, sum-ext, ind, ind-yes, ind-no, ind-iff}
 use Rattle.keeps.proofs.Euler.{same-euler, live?, bare, paired, bare?, paired?, liveV?, edges, faces, vertices}
-use Rattle.keeps.proofs.EulerSplit.{grow6}
+use Rattle.keeps.proofs.EulerSplitInner.{grow6}
 use Rattle.table.specs.Table.{Table, Live, LiveVertex, opposite, vertex, Shaped}
 use Rattle.table.specs.Rules.{WellFormed}
 use mathlib.Core.Bool.{true}
@@ -26,8 +26,8 @@ use Rattle.edit.specs.Plans.{triangle}
 use Rattle.edit.specs.SplitFace.{faceVertices, faceOpposites, faceCorners, splitFace}
 use Rattle.keeps.proofs.Writes.{six-push6}
 use Rattle.fan.proofs.Tables.{table-linked}
-use Rattle.keeps.proofs.Grow1.{LiveV1, old-vertex, new-one, was-vertex, placed-finite}
-use Rattle.keeps.proofs.CutTable.{t′, the-cut, co′, cv′, vc′}
+use Rattle.keeps.proofs.NewVertex.{LiveV1, old-vertex, new-one, was-vertex, placed-finite}
+use Rattle.keeps.proofs.SplitFaceTable.{t′, the-cut, co′, cv′, vc′}
 
 module _ {live live′ : ℕ → Type 0} {opposite opposite′ vertex vertex′ : ℕ → ℕ} {c0 c1 c2 : ℕ} (n u : ℕ) (L : Linked live opposite vertex)
     (C : Cut live live′ opposite opposite′ vertex vertex′ c0 c1 c2 n (n + 1) (n + 2) (n + 3) (n + 4) (n + 5) u) (l1 : live c1) where

@@ -8,10 +8,10 @@ use lib.ListN.{length}
 use Rattle.corner.specs.Corner.{next, previous}
 use Rattle.corner.specs.Corner.{absent}
 use Rattle.fan.proofs.Fan.{Linked, opp-of}
-use Rattle.keeps.proofs.Cut.{face3}
+use Rattle.keeps.proofs.SplitFace.{face3}
 use Rattle.fan.proofs.Redirect.{at, at-same, at-other, at-ind}
 use Rattle.keeps.proofs.Count.{sum, sum-one, sum-ext, sum-at, sum-six, sum-two, ind, ind-yes, ind-no, ind-iff}
-use Rattle.keeps.proofs.Split.{SplitSite, Split, split-linked, l0, l5, l2, x0-5}
+use Rattle.keeps.proofs.SplitInner.{SplitSite, Split, split-linked, l0, l5, l2, x0-5}
 use Rattle.keeps.proofs.Euler.{same-euler, live?, bare, paired, bare?, paired?, liveV?, edges, faces, vertices}
 use Rattle.table.specs.Table.{Table, Live, LiveVertex, opposite, vertex, Shaped}
 use Rattle.table.specs.Rules.{WellFormed}
@@ -25,9 +25,9 @@ use Rattle.table.specs.Euler.{SameEuler}
 use Rattle.edit.specs.Plans.{around}
 use Rattle.edit.specs.SplitEdge.{splitPoints, splitCorners, innerVertices, innerOpposites, splitInnerEdge}
 use Rattle.keeps.proofs.Writes.{six-push6}
-use Rattle.keeps.proofs.Grow1.{LiveV1, old-vertex, new-one, was-vertex, split-finite}
+use Rattle.keeps.proofs.NewVertex.{LiveV1, old-vertex, new-one, was-vertex, split-finite}
 use Rattle.fan.proofs.Tables.{table-linked}
-use Rattle.keeps.proofs.SplitTable.{t′, the-split, cs, cv0, cv′, co0, o1, b5, co′, vc′}
+use Rattle.keeps.proofs.SplitInnerTable.{t′, the-split, cs, cv0, cv′, co0, o1, b5, co′, vc′}
 
 -- six more places: c0 and c5 and four new ones weigh k, the other two take the old weights of c0 and c5
 pub grow6 : (n c0 c5 k : ℕ) (f g : ℕ → ℕ) → c0 < n → c5 < n → c0 ≢ c5 → g c0 ≡ k → g c5 ≡ k → ((d : ℕ) → d < n → d ≢ c0 → d ≢ c5 → g d ≡ f d)

@@ -9,7 +9,7 @@ use Rattle.corner.proofs.Turns.{next-next, next-previous, previous-next, next-i
 use Rattle.corner.specs.Corner.{absent}
 use Rattle.table.specs.Rules.{Mate}
 use Rattle.fan.proofs.Fan.{Left, Conn, stay, fore, conn-trans, conn-sym, conn-eq, simulate, Linked, OneFan, mate-sym, mate-at, linked, face-previous, opp-not-self, opp-not-next, opp-not-previous, opp-of}
-use Rattle.keeps.proofs.Cut.{Face3}
+use Rattle.keeps.proofs.SplitFace.{Face3}
 use Rattle.fan.proofs.Redirect.{at, at-same, at-other}
 
 -- six numbers in a row
