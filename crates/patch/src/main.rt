@@ -180,6 +180,20 @@ fn say_sizes(when: &[u8], s: Sizes) {
     put(b" border edges\n");
 }
 
+// What a call answered, after what it was.
+fn say_result(what: &[u8], answer: u32) {
+    put(what);
+    say_answer(answer);
+    put(b"\n");
+}
+
+fn say_built(words: &[u32], skipped: u64) {
+    say(b"build: ", at(words, 1, 0) as u64);
+    say(b" points, ", at(words, 2, 0) as u64);
+    say(b" faces, ", skipped);
+    put(b" skipped\n");
+}
+
 // One line for a refused command: its number, kind, target, the answer and its meaning.
 fn say_refused(script: &[u32], answers: &[u32], i: u32) {
     let k = 5 * (i as usize);
@@ -241,9 +255,7 @@ fn edit(
         (table (now (cv .exit)) (now (co .exit)) (now (cm .exit)) (now (vc .exit)) (now (vm .exit)) (now (vp .exit)) (r .counts .vertices) (r .counts .corners)) ⌝ }
 {
     let v = checker::check(cv, co, cm, vc, vm, vp, counts);
-    put(b"check: ");
-    say_answer(v.answer);
-    put(b"\n");
+    say_result(b"check: ", v.answer);
     let before = tally::tally(cv, co, cm, vc, vm, vp, counts);
     let r = script::run(cv, co, cm, vc, vm, vp, counts, script, answers);
     let after = tally::tally(cv, co, cm, vc, vm, vp, r.counts);
@@ -279,15 +291,10 @@ fn job(words: &[u32]) {
         face_words(words),
     );
     if b.answer != 0 {
-        put(b"patch: the build is refused: ");
-        say_answer(b.answer);
-        put(b"\n");
+        say_result(b"patch: the build is refused: ", b.answer);
         return;
     }
-    say(b"build: ", at(words, 1, 0) as u64);
-    say(b" points, ", at(words, 2, 0) as u64);
-    say(b" faces, ", b.skipped as u64);
-    put(b" skipped\n");
+    say_built(words, b.skipped as u64);
     let r = edit(
         &mut cv,
         &mut co,
@@ -300,9 +307,7 @@ fn job(words: &[u32]) {
         &mut answers,
         at(words, 3, 0),
     );
-    put(b"run: ");
-    say_answer(r.answer);
-    put(b"\n");
+    say_result(b"run: ", r.answer);
 }
 
 fn main() {
