@@ -1,5 +1,5 @@
 -- The duplicates as the code does them: corners in the fan of their vertex's corner are marked, the others are threaded into a chain for
--- each vertex, and the chains are followed. The whole is `vertices` of the build (proofs/Agree.antt, `fast`).
+-- each vertex, and the chains are followed. The whole is `vertices` of the build (proofs/Agree.antt, `fast-plain`).
 use Prim.Native.Nat.{ℕ, zero, suc, _+_, _-_, _≤_, _<_}
 use mathlib.Core.Path.{_≡_}
 use mathlib.Core.Bool.{Bool, cond, _&&_}

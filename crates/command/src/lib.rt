@@ -1,4 +1,4 @@
-// One command of a script: decoded from five words, answered, and done where its answer is 0.
+// One command of a script: decoded from five words, and answered. `step` does it where its answer is 0.
 ghost use mathlib.Core.Path.{_≡_};
 ghost use mathlib.Core.Bool.{cond};
 ghost use mathlib.Core.List.{List};

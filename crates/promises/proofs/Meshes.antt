@@ -1,4 +1,4 @@
--- Document 01, "Small meshes to compare": the marked refusals, by computing the answers, of single commands and of whole runs. Assumes nothing.
+-- Document 01, "Small meshes to compare": the marked answers, by computing the answers, of single commands and of whole runs. Assumes nothing.
 use Prim.Native.Nat.{ℕ}
 use mathlib.Core.Path.{_≡_, refl}
 use mathlib.Core.List.{List, [], _∷_}
@@ -13,8 +13,8 @@ use Rattle.ring.specs.Ring.{side, ring}
 use Rattle.edit.specs.Plans.{around}
 use Rattle.edit.specs.Collapse.{winged, either, collapseVertices, collapseOpposites, collapseMarks, collapseCorners, collapseEdge}
 use Rattle.edge_collapse.specs.EdgeCollapse.{meetsBorder, neighbours, timesIn, commonIn, affectsBoundary, unsafe}
-use Rattle.command.specs.declared.Edit.the-variants.{Collapse, Flip, SplitFace}
-use Rattle.command.specs.Answers.{first, targeted, roomFor, collapseAnswer, flipAnswer, splitFaceAnswer, answer}
+use Rattle.command.specs.declared.Edit.the-variants.{Collapse, Flip, SplitEdge, SplitFace}
+use Rattle.command.specs.Answers.{first, targeted, roomFor, collapseAnswer, flipAnswer, splitEdgeAnswer, splitFaceAnswer, answer}
 use Rattle.command.specs.Decode.{decoded, commandAt}
 use Rattle.command.specs.Step.{effect, step}
 use Rattle.checker.specs.First.{firstFrom, firstBad}
@@ -31,6 +31,19 @@ origin = record { x = nought; y = nought; z = nought }
 pub b-flip : answer meshB (Flip (record { 0 = 0 })) ≡ 11
 unfolding answer flipAnswer targeted first
 b-flip = refl
+
+-- "B, flip 1", "A, split edge 0" and "B, split edge 1" are done
+pub b-flip-done : answer meshB (Flip (record { 0 = 1 })) ≡ 0
+unfolding answer flipAnswer targeted first
+b-flip-done = refl
+
+pub a-split-edge-done : answer (extended 3 1 meshA) (SplitEdge (record { 0 = 0 }) origin) ≡ 0
+unfolding answer splitEdgeAnswer targeted first roomFor nought ofBits
+a-split-edge-done = refl
+
+pub b-split-edge-done : answer (extended 6 1 meshB) (SplitEdge (record { 0 = 1 }) origin) ≡ 0
+unfolding answer splitEdgeAnswer targeted first roomFor nought ofBits
+b-split-edge-done = refl
 
 -- "B, collapse 1: 11"
 pub b-collapse : answer meshB (Collapse (record { 0 = 1 }) origin) ≡ 11
