@@ -44,6 +44,28 @@ module _ (co : List ℕ) (s c : ℕ) where
           go zero h = absurd (omega arith)
           go (suc room) h = rw (← is, no, ← is′, g, ← e, ← f, suc-sub-suc, sub-zero)
 
+  -- a turn of the two walks, each swing made only when its corner is looked at
+  module _ (room a b : ℕ) (h : 0 < room) (x : ℕ) (ex : x ≡ swing true co a) (p : Bool) (is : p ≡ hits s c x) where
+    left-is : p ≡ hits s c (swing true co a)
+    left-is = is ∙ ap (λ (z : ℕ). hits s c z) ex
+
+    pub turn-left : p ≡ true → true ≡ near co s c room (swing true co a) (swing false co b)
+    turn-left e = near-left room (swing true co a) (swing false co b) h p left-is e
+
+    module _ (no : p ≡ false) (y : ℕ) (ey : y ≡ swing false co b) (q : Bool) (is′ : q ≡ hits s c y) where
+      right-is : q ≡ hits s c (swing false co b)
+      right-is = is′ ∙ ap (λ (z : ℕ). hits s c z) ey
+
+      pub turn-right : q ≡ true → true ≡ near co s c room (swing true co a) (swing false co b)
+      turn-right e = near-right room (swing true co a) (swing false co b) h p left-is no q right-is e
+
+      pub turn-more : q ≡ false → near co s c room (swing true co a) (swing false co b) ≡ near co s c (room - 1) (swing true co x) (swing false co y)
+      turn-more g =
+          near-more room (swing true co a) (swing false co b) h p left-is no q right-is (swing true co x) (swing false co y)
+          (ap (λ (z : ℕ). swing true co z) ex)
+          (ap (λ (z : ℕ). swing false co z) ey)
+          g
+
 module _ (cv co cm vc : List ℕ) (nc c : ℕ) where
   pub fan-live : (r : Bool) → live cm nc c ≡ true → r ≡ near co (cornerAt vc (vertexAt cv c)) c nc c c → r ≡ fanTest cv co cm vc nc c
   unfolding fanTest

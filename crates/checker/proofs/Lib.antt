@@ -3,6 +3,7 @@ pub mod First
 pub mod Arms
 pub mod Order
 pub mod Words
+pub mod Quick
 pub mod Walks
 pub mod Rules
 pub mod Keeping

@@ -1,15 +1,23 @@
 // The checker: R1 to R6 on any table, the lowest broken rule and the lowest slot that breaks it. It only reads, and needs no memory.
 //
-// Each rule is one or two tests of a slot; one loop finds the first slot that fails a test, and one the first test that fails. The
-// cost is of order n, but for R5's fans: there a corner walks only as far as the nearest smaller corner of its fan, which is of order
-// n log n over any mesh, also where all corners are of one vertex.
+// Each rule is one or two tests of a slot; one loop finds the first slot that fails a test, and one the first test that fails. Before
+// that a quick pass over the faces settles R1 to R4 at once where nothing is broken.
+//
+// The cost is of order n, but for R5's fans: there a corner walks only as far as the nearest smaller corner of its fan, which is of
+// order n log n over any mesh, also where all corners are of one vertex.
 ghost use mathlib.Core.Path.{_≡_};
-ghost use mathlib.Core.Bool.{_&&_, _||_};
+ghost use mathlib.Core.Bool.{_&&_, _||_, true, false};
+ghost use mathlib.Core.List.{List};
+ghost use Prim.Native.Nat.{ℕ, _+_, _%_, _<_, _≤_};
+ghost use lib.Dec.{eqb};
+ghost use lib.Ieee.{Float};
 ghost use lib.ListN.{length};
-ghost use Rattle.table.specs.Table.{table};
+ghost use Rattle.corner.specs.Corner.{next, previous};
+ghost use Rattle.table.specs.Slots.{vertexAt, oppositeAt, markAt};
+ghost use Rattle.table.specs.Table.{table, live};
 ghost use Rattle.checker.specs.First.{firstBad};
 ghost use Rattle.checker.specs.Tests.{implies, onto as ontoOf, swing as swingOf, hits as hitsOf, near as nearOf, countsTest, markTest, faceTest, vertexTest, differTest, backTest, matesTest, oppositeTest, cornerTest, fanTest, pointTest, holds as holdsOf};
-ghost use Rattle.checker.specs.Order.{testAt, ruleOf, span as spanOf, slotOf, firstOf, ruled as ruledOf, verdictOf};
+ghost use Rattle.checker.specs.Order.{testAt, ruleOf, span as spanOf, slotOf, firstOf, clean, ruled as ruledOf, verdictOf};
 use corner::Corner;
 use table::Counts;
 use table::at;
@@ -172,25 +180,39 @@ fn hits(s: Corner, c: Corner, x: Corner) -> bool
     either(x.0 == s.0, x.0 < c.0)
 }
 
-// From c to the left and to the right at once, till either walk meets s, or a corner before c, which has passed this test already.
-fn near(co: &[u32], s: Corner, c: Corner, room: u32) -> bool
-    ensures { λ r. ⌜ r ≡ nearOf (now (co .entry)) (s .0) (c .0) room (c .0) (c .0) ⌝ }
+// From c to the left and to the right in turn, till either walk meets s, or a corner before c, which has passed this test already. The
+// walk to the right waits for the one to the left: most corners are through with the first swing.
+fn meets(co: &[u32], s: Corner, c: Corner, room: u32) -> bool
+    ensures { λ r. ⌜ r ≡ nearOf (now (co .entry)) (s .0) (c .0) room (swingOf true (now (co .entry)) (c .0)) (swingOf false (now (co .entry)) (c .0)) ⌝ }
 {
     let mut a = c;
     let mut b = c;
     let mut rest = room;
     while rest > 0 {
+        a = swing(true, co, a);
         if hits(s, c, a) {
             return true;
         }
+        b = swing(false, co, b);
         if hits(s, c, b) {
             return true;
         }
-        a = swing(true, co, a);
-        b = swing(false, co, b);
         rest -= 1;
     }
     false
+}
+
+// Both walks start at c itself, which is looked at once.
+fn near(co: &[u32], s: Corner, c: Corner, room: u32) -> bool
+    ensures { λ r. ⌜ r ≡ nearOf (now (co .entry)) (s .0) (c .0) room (c .0) (c .0) ⌝ }
+{
+    if room == 0 {
+        return false;
+    }
+    if hits(s, c, c) {
+        return true;
+    }
+    meets(co, s, c, room - 1)
 }
 
 // "... and every live corner of the vertex lies in the fan of that one."
@@ -209,6 +231,159 @@ fn point_test(vm: &[u32], vp: &[f32], nv: u32, v: Vertex) -> bool
 {
     let p = position(vp, v);
     if_so(is_live(vm, nv, v.0 as usize), p.finite())
+}
+
+// ---- the quick pass: R1 to R4 at once, face by face, so that a face's slots are read once and its corners need no division by 3
+//
+// It only ever says that all is well. Where it does not, the tests are made one by one, and name the lowest rule and slot.
+
+// o is live, and its opposite is c.
+fn paired(co: &[u32], cm: &[u32], nc: u32, c: Corner, o: Corner) -> bool
+    ensures { λ r. ⌜ r ≡ (live (now (cm .entry)) nc (o .0) && eqb (oppositeAt (now (co .entry)) (o .0)) (c .0)) ⌝ }
+{
+    let own = at(co, o.0 as usize, 4294967295) == c.0;
+    both(is_live(cm, nc, o.0 as usize), own)
+}
+
+// The corner after o is of vertex ahead, and the one before it of vertex behind.
+fn runs(cv: &[u32], o: Corner, ahead: u32, behind: u32) -> bool
+    ensures { λ r. ⌜ r ≡ (eqb (vertexAt (now (cv .entry)) (next (o .0))) ahead && eqb (vertexAt (now (cv .entry)) (previous (o .0))) behind) ⌝ }
+{
+    let tail = at(cv, o.next_index(), 0) == ahead;
+    let head = at(cv, o.previous_index(), 0) == behind;
+    both(tail, head)
+}
+
+// R4 at c, where the vertices of the corners after and before it are at hand.
+fn edge_fits(
+    cv: &[u32],
+    co: &[u32],
+    cm: &[u32],
+    nc: u32,
+    c: Corner,
+    ahead: u32,
+    behind: u32,
+) -> bool
+    ensures { λ r. ⌜ (ahead ≡ vertexAt (now (cv .entry)) (next (c .0)) → behind ≡ vertexAt (now (cv .entry)) (previous (c .0)) → r ≡ true → oppositeTest (now (cv .entry)) (now (co .entry)) (now (cm .entry)) nc (c .0) ≡ true) ⌝ }
+{
+    let o = opposite_of(co, c);
+    if o.0 == 4294967295 {
+        return true;
+    }
+    if paired(co, cm, nc, c, o) {
+        return runs(cv, o, behind, ahead);
+    }
+    false
+}
+
+// R3 and R4 at c, where its vertex is at hand too.
+fn corner_fits(
+    cv: &[u32],
+    co: &[u32],
+    cm: &[u32],
+    vm: &[u32],
+    nv: u32,
+    nc: u32,
+    c: Corner,
+    own: u32,
+    ahead: u32,
+    behind: u32,
+) -> bool
+    ensures { λ r. ⌜ (own ≡ vertexAt (now (cv .entry)) (c .0) → ahead ≡ vertexAt (now (cv .entry)) (next (c .0)) → behind ≡ vertexAt (now (cv .entry)) (previous (c .0)) → r ≡ true → (vertexTest (now (cv .entry)) (now (cm .entry)) (now (vm .entry)) nv nc (c .0) ≡ true) × (differTest (now (cv .entry)) (now (cm .entry)) nc (c .0) ≡ true) × (oppositeTest (now (cv .entry)) (now (co .entry)) (now (cm .entry)) nc (c .0) ≡ true)) ⌝ }
+{
+    if own == ahead {
+        return false;
+    }
+    if is_live(vm, nv, own as usize) {
+        return edge_fits(cv, co, cm, nc, c, ahead, behind);
+    }
+    false
+}
+
+// R3 and R4 at the three corners of a face, from its first one.
+fn sides_fit(cv: &[u32], co: &[u32], cm: &[u32], vm: &[u32], nv: u32, nc: u32, f: u32) -> bool
+    requires { ⌜ (f % 3 ≡ 0) × (f + 3 ≤ nc) ⌝ }
+    ensures { λ r. ⌜ (r ≡ true → (i : ℕ) → f ≤ i → i < f + 3 → (vertexTest (now (cv .entry)) (now (cm .entry)) (now (vm .entry)) nv nc i ≡ true) × (differTest (now (cv .entry)) (now (cm .entry)) nc i ≡ true) × (oppositeTest (now (cv .entry)) (now (co .entry)) (now (cm .entry)) nc i ≡ true)) ⌝ }
+{
+    let a = at(cv, f as usize, 0);
+    let b = at(cv, f as usize + 1, 0);
+    let c = at(cv, f as usize + 2, 0);
+    if corner_fits(cv, co, cm, vm, nv, nc, Corner(f), a, b, c) {
+        if corner_fits(cv, co, cm, vm, nv, nc, Corner(f + 1), b, c, a) {
+            return corner_fits(cv, co, cm, vm, nv, nc, Corner(f + 2), c, a, b);
+        }
+    }
+    false
+}
+
+// The second and the third corner of a face have this mark.
+fn agree(cm: &[u32], f: u32, mark: u32) -> bool
+    ensures { λ r. ⌜ r ≡ (eqb (markAt (now (cm .entry)) (f + 1)) mark && eqb (markAt (now (cm .entry)) (f + 2)) mark) ⌝ }
+{
+    both(
+        at(cm, f as usize + 1, 1) == mark,
+        at(cm, f as usize + 2, 1) == mark,
+    )
+}
+
+// R2 to R4 of a face, from its first corner.
+fn face_fits(cv: &[u32], co: &[u32], cm: &[u32], vm: &[u32], nv: u32, nc: u32, f: u32) -> bool
+    requires { ⌜ (f % 3 ≡ 0) × (f + 3 ≤ nc) ⌝ }
+    ensures { λ r. ⌜ (r ≡ true → (i : ℕ) → f ≤ i → i < f + 3 → (markTest (now (cm .entry)) i ≡ true) × (faceTest (now (cm .entry)) i ≡ true) × (vertexTest (now (cv .entry)) (now (cm .entry)) (now (vm .entry)) nv nc i ≡ true) × (differTest (now (cv .entry)) (now (cm .entry)) nc i ≡ true) × (oppositeTest (now (cv .entry)) (now (co .entry)) (now (cm .entry)) nc i ≡ true)) ⌝ }
+{
+    let mark = at(cm, f as usize, 1);
+    if agree(cm, f, mark) {
+        if mark == 0 {
+            return sides_fit(cv, co, cm, vm, nv, nc, f);
+        }
+        return mark == 1;
+    }
+    false
+}
+
+// R2 to R4 of all faces.
+fn faces_fit(cv: &[u32], co: &[u32], cm: &[u32], vm: &[u32], nv: u32, nc: u32) -> bool
+    requires { ⌜ nc % 3 ≡ 0 ⌝ }
+    ensures { λ r. ⌜ (r ≡ true → (i : ℕ) → i < nc → (markTest (now (cm .entry)) i ≡ true) × (faceTest (now (cm .entry)) i ≡ true) × (vertexTest (now (cv .entry)) (now (cm .entry)) (now (vm .entry)) nv nc i ≡ true) × (differTest (now (cv .entry)) (now (cm .entry)) nc i ≡ true) × (oppositeTest (now (cv .entry)) (now (co .entry)) (now (cm .entry)) nc i ≡ true)) ⌝ }
+{
+    let mut f = 0;
+    while f < nc {
+        if face_fits(cv, co, cm, vm, nv, nc, f) {
+            f += 3;
+        } else {
+            return false;
+        }
+    }
+    true
+}
+
+// R2 of the vertices.
+fn marks_fit(vm: &[u32], nv: u32) -> bool
+    ensures { λ r. ⌜ (r ≡ true → (i : ℕ) → i < nv → markTest (now (vm .entry)) i ≡ true) ⌝ }
+{
+    let mut v = 0;
+    while v < nv {
+        if mark_test(vm, v) {
+            v += 1;
+        } else {
+            return false;
+        }
+    }
+    true
+}
+
+// How many of the tests, in their order, the quick pass has settled: they pass at every slot.
+fn settled(cv: &[u32], co: &[u32], cm: &[u32], vm: &[u32], nv: u32, nc: u32) -> u32
+    ensures { λ r. ⌜ ((vc : List ℕ) → (vp : List Float) → (r ≤ 10) × ((k : ℕ) → k < r → clean (table (now (cv .entry)) (now (co .entry)) (now (cm .entry)) vc (now (vm .entry)) vp nv nc) k ≡ true)) ⌝ }
+{
+    if counts_test(cm.len(), vm.len(), nv, nc) {
+        if marks_fit(vm, nv) {
+            if faces_fit(cv, co, cm, vm, nv, nc) {
+                return 7;
+            }
+        }
+    }
+    0
 }
 
 // ---- one test of one slot, and the order of the tests
@@ -366,7 +541,7 @@ fn ruled(
 ) -> Verdict
     ensures { λ r. ⌜ r ≡ ruledOf (table (now (cv .entry)) (now (co .entry)) (now (cm .entry)) (now (vc .entry)) (now (vm .entry)) (now (vp .entry)) nv nc) ⌝ }
 {
-    let mut k = 0;
+    let mut k = settled(cv, co, cm, vm, nv, nc);
     while k < 10 {
         let test = test_at(k);
         let i = first_of(test, cv, co, cm, vc, vm, vp, nv, nc);

@@ -1,66 +1,30 @@
--- `checker::near` meets its contract: the walks from where the loop stands, with the fuel that is left, end as the walks from c do.
+-- `checker::near` meets its contract: the first turn of the walks, both of which stand at c.
 use borrow.Author.Needs.{needs}
-use mathlib.Core.Path.{_≡_, refl, sym, _∙_}
+use mathlib.Core.Path.{refl, sym, _∙_}
 use denote.Ref.{now}
 use native.Mathlib.Omega.{arith}
-use Rattle.checker.specs.Tests.{near}
-use Rattle.checker.proofs.Arms.{near-out, near-left, near-right, near-more}
+use Rattle.checker.proofs.Arms.{near-out, near-left, near-more}
 use Rattle.checker.proofs.near.Statement.{statement}
 use Rattle.checker.proofs.near.Tie as tie
 
-abbrev Inv-loop : tie.InvT-loop
-Inv-loop co s c room a₀ b₀ rest₀ a b rest = near co (s .0) (c .0) room (c .0) (c .0) ≡ near co (s .0) (c .0) rest (a .0) (b .0)
+returns : tie.Need-returns
+returns c = near-out _ _ _ _ _ _ (omega arith)
 
-abbrev μ-loop : tie.MeasureT-loop
-μ-loop co s c room a₀ b₀ rest₀ a b rest = rest
-
-loop-holds : tie.Need-loop-holds Inv-loop μ-loop
-loop-holds c = refl
-
-hits-requires : tie.Need-hits-requires Inv-loop μ-loop
+hits-requires : tie.Need-hits-requires
 hits-requires c κs = search needs
 
-returns : tie.Need-returns Inv-loop μ-loop
-returns c = let s = c .before .before .before in let z = s .before .before .args in near-left (now (z .co)) (z .s .0) (z .c .0) (s .loop .rest) (s .loop .a .0) (s .loop .b .0) (omega arith) _ (c .before .hits .ensures) (c .if1 .taken) ∙ sym (s .loop .inv)
+returns-2 : tie.Need-returns-2
+returns-2 c = let z = c .before .before .before .before .args in near-left (now (z .co)) (z .s .0) (z .c .0) (z .room) (z .c .0) (z .c .0) (omega arith) _ (c .before .hits .ensures) (c .if2 .taken)
 
-hits-requires-2 : tie.Need-hits-requires-2 Inv-loop μ-loop
-hits-requires-2 c κs = search needs
+sub-meets : tie.Need-sub-meets
+sub-meets c = omega arith
 
-returns-2 : tie.Need-returns-2 Inv-loop μ-loop
-returns-2 c = let s = c .before .before .before .before .before in let z = s .before .before .args in near-right (now (z .co)) (z .s .0) (z .c .0) (s .loop .rest) (s .loop .a .0) (s .loop .b .0) (omega arith) _ (c .before .before .before .hits .ensures) (c .before .before .if1 .left) _ (c .before .hits2 .ensures) (c .if2 .taken) ∙ sym (s .loop .inv)
+meets-requires : tie.Need-meets-requires
+meets-requires c κs = search needs
 
-swing-requires : tie.Need-swing-requires Inv-loop μ-loop
-swing-requires c κs = search needs
-
-swing-requires-2 : tie.Need-swing-requires-2 Inv-loop μ-loop
-swing-requires-2 c κs = search needs
-
-sub-rest : tie.Need-sub-rest Inv-loop μ-loop
-sub-rest c = omega arith
-
-loop-less : tie.Need-loop-less Inv-loop μ-loop
-loop-less c = omega arith
-
-loop-again : tie.Need-loop-again Inv-loop μ-loop
-loop-again c = let s = c .before .before .before .before .before .before .before in let z = s .before .before .args in s .loop .inv ∙ near-more (now (z .co)) (z .s .0) (z .c .0) (s .loop .rest) (s .loop .a .0) (s .loop .b .0) (omega arith) _ (c .before .before .before .before .before .hits .ensures) (c .before .before .before .before .if1 .left) _ (c .before .before .before .hits2 .ensures) _ _ (c .before .swing .ensures) (c .swing2 .ensures) (c .before .before .if2 .left)
-
-returns-3 : tie.Need-returns-3 Inv-loop μ-loop
-returns-3 c = near-out _ _ _ (c .before .loop .rest) _ _ (omega arith) ∙ sym (c .before .loop .inv)
+returns-3 : tie.Need-returns-3
+returns-3 c = let z = c .before .before .before .before .before .args in c .meets .ensures ∙ sym (near-more (now (z .co)) (z .s .0) (z .c .0) (z .room) (z .c .0) (z .c .0) (omega arith) _ (c .before .before .hits .ensures) (c .before .if2 .left) _ (c .before .before .hits .ensures) _ _ refl refl (c .before .if2 .left))
 
 pub near-spec : {M : Type 1} → statement M
 near-spec =
-    tie.close
-    (tie.spec
-    Inv-loop
-    μ-loop
-    loop-holds
-    hits-requires
-    returns
-    hits-requires-2
-    returns-2
-    swing-requires
-    swing-requires-2
-    sub-rest
-    loop-less
-    loop-again
-    returns-3)
+    tie.close (tie.spec returns hits-requires returns-2 sub-meets meets-requires returns-3)

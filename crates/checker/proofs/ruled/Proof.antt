@@ -1,10 +1,11 @@
--- `checker::ruled` meets its contract: every test before k passes everywhere.
+-- `checker::ruled` meets its contract: every test before k passes everywhere, those too that the quick pass has settled.
 use Prim.Native.Nat.{_-_}
 use native.Mathlib.Omega.{arith}
 use borrow.Author.Needs.{needs}
+use denote.Ref.{now}
 use Rattle.table.specs.Table.{table}
 use Rattle.checker.specs.Order.{tests, clean}
-use Rattle.checker.proofs.First.{Passed, passed-start, passed-more}
+use Rattle.checker.proofs.First.{Passed, passed-more}
 use Rattle.checker.proofs.Order.{clean-yes, ruled-bad, ruled-good}
 use Rattle.checker.proofs.ruled.Statement.{statement}
 use Rattle.checker.proofs.ruled.Tie as tie
@@ -15,8 +16,11 @@ Inv-loop cv co cm vc vm vp nv nc k₀ k = Passed (clean (table cv co cm vc vm vp
 abbrev μ-loop : tie.MeasureT-loop
 μ-loop cv co cm vc vm vp nv nc k₀ k = tests - k
 
+settled-requires : tie.Need-settled-requires Inv-loop μ-loop
+settled-requires c κs = search needs
+
 loop-holds : tie.Need-loop-holds Inv-loop μ-loop
-loop-holds c = passed-start _ _
+loop-holds c = let z = c .before .before .before .before .before .before .before .args in let s = c .settled .ensures (now (z .vc)) (now (z .vp)) in record { within = s .0; passes = s .1 }
 
 test-at-requires : tie.Need-test-at-requires Inv-loop μ-loop
 test-at-requires c κs = search needs
@@ -54,6 +58,7 @@ ruled-spec =
     (tie.spec
     Inv-loop
     μ-loop
+    settled-requires
     loop-holds
     test-at-requires
     first-of-requires
