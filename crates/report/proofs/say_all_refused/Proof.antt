@@ -1,9 +1,9 @@
--- `patch::say_all_refused` ends.
+-- `report::say_all_refused` ends.
 use Prim.Native.Nat.{_-_, _≤_}
 use native.Mathlib.Omega.{arith}
 use borrow.Author.Needs.{needs}
-use Rattle.patch.proofs.say_all_refused.Statement.{statement}
-use Rattle.patch.proofs.say_all_refused.Tie as tie
+use Rattle.report.proofs.say_all_refused.Statement.{statement}
+use Rattle.report.proofs.say_all_refused.Tie as tie
 
 abbrev Inv-loop : tie.InvT-loop
 Inv-loop script answers n i₀ i = i ≤ n
