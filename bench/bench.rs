@@ -186,44 +186,35 @@ fn check(table: &Table, turns: usize) {
     println!("| check, the patch | {:.1} | | |", median(times.collect()));
 }
 
-fn rings(floor: &Floor, table: &Table, turns: usize) {
+/// One kind of ring at every vertex, beside what the Rust has for it.
+fn ring(name: &str, kind: usize, table: &Table, turns: usize, mut rust_ring: impl FnMut(u32)) {
     let mut lent = Lent::of(table);
-    let rust = floor.rust();
     let mut list = Memory::of(&[0; 64]);
+    let pairs = (0..turns).map(|_| {
+        let ours = nanoseconds(|| {
+            for v in 0..table.vertices {
+                black_box(lent.ring(kind, v, &mut list));
+            }
+        });
+        (ours, nanoseconds(|| (0..table.vertices).for_each(&mut rust_ring)))
+    });
+    row(name, table.vertices as usize, pairs.collect());
+}
+
+fn rings(floor: &Floor, table: &Table, turns: usize) {
+    let rust = floor.rust();
     let mut entries = vec![0u32; 64];
-    let pairs = (0..turns).map(|_| {
-        let ours = nanoseconds(|| {
-            for v in 0..floor.vertices as u32 {
-                black_box(lent.ring(1, v, &mut list));
-            }
+    ring("ring of vertices written to a lent list, a vertex", 1, table, turns, |v| {
+        let mut written = 0;
+        rust.vertices_around_vertex(Probe::vertex(v), |w| {
+            entries[written] = Probe::vertex_number(w);
+            written += 1;
         });
-        let rust = nanoseconds(|| {
-            for v in 0..floor.vertices as u32 {
-                let mut written = 0;
-                rust.vertices_around_vertex(Probe::vertex(v), |w| {
-                    entries[written] = Probe::vertex_number(w);
-                    written += 1;
-                });
-                black_box(&entries);
-            }
-        });
-        (ours, rust)
+        black_box(&entries);
     });
-    row("ring of vertices written to a lent list, a vertex", floor.vertices, pairs.collect());
-    let pairs = (0..turns).map(|_| {
-        let ours = nanoseconds(|| {
-            for v in 0..floor.vertices as u32 {
-                black_box(lent.ring(0, v, &mut list));
-            }
-        });
-        let rust = nanoseconds(|| {
-            for v in 0..floor.vertices as u32 {
-                black_box(Probe::collected(&rust, Probe::vertex(v)));
-            }
-        });
-        (ours, rust)
+    ring("ring of corners, the Rust's as its own list, a vertex", 0, table, turns, |v| {
+        black_box(Probe::collected(&rust, Probe::vertex(v)));
     });
-    row("ring of corners, the Rust's as its own list, a vertex", floor.vertices, pairs.collect());
 }
 
 /// A script's edits: the run without the check that it begins with, whose time is taken on the same table just before.
