@@ -29,8 +29,8 @@ use Rattle.command.specs.Step.{step}
 use Rattle.step.specs.Stepped.{Stepped}
 use Rattle.script.specs.Run.{commands, run, Outcome}
 
--- Demand 3, after every command: whatever the script and the answer words, after the first k commands "the table is well-formed and V−E+F is
--- what it was", and the lent parts have their lengths
+-- Demand 3, after every command: whatever the script and the answer words, after the first k commands the table is well-formed, V−E+F is what
+-- it was, and the lent parts have their lengths
 abbrev pub AfterEvery : Type 0
 AfterEvery = (t : Table) → Shaped t → WellFormed t → (s answers : List ℕ) (k : ℕ) → Kept t (commands s k 0 answers t .table)
 
@@ -51,7 +51,7 @@ pub record OneOutcome (a r p : ℕ) (l : List ℕ) (t : Table) (b q k : ℕ) (m 
   pub answers : l ≡ m
   pub table : t ≡ u
 
--- "any two outcomes allowed by [the contract] are equal": of a run, on any table, script and answer words
+-- "any two outcomes allowed by it are equal": by the contract of a run, on any table, script and answer words
 abbrev pub Settled : Type 0
 Settled = (s answers : List ℕ) (t : Table) (a r slot : ℕ) (answers′ : List ℕ) (u : Table) (b q place : ℕ) (others : List ℕ) (v : Table)
     → Outcome s answers t a r slot answers′ u → Outcome s answers t b q place others v → OneOutcome a r slot answers′ u b q place others v
@@ -60,8 +60,8 @@ Settled = (s answers : List ℕ) (t : Table) (a r slot : ℕ) (answers′ : List
 abbrev pub StepSettled : Type 0
 StepSettled = (t : Table) (e : Edit) (a b : ℕ) (u v : Table) → Stepped t e a u → Stepped t e b v → (a ≡ b) × (u ≡ v)
 
--- "Each command's outcome is the definition applied to the table before it": answer word i of n commands is the answer that command i gets
--- from the table that the first i commands leave
+-- "demand 2 applied to each command from the table before it": answer word i of n commands is the answer that command i gets from the table
+-- that the first i commands leave
 abbrev pub EachWord : Type 0
 EachWord = (t : Table) (s answers : List ℕ) (n i : ℕ) → i < n → i < length answers
     → getD (commands s n 0 answers t .answers) i 0 ≡ answer (commands s i 0 answers t .table) (commandAt s i)
@@ -74,7 +74,7 @@ OtherWords = (t : Table) (s answers : List ℕ) (n i : ℕ) → n ≤ i → getD
 abbrev pub Listed : Type 0
 Listed = (t : Table) (e : Edit) → answer t e ≤ 14
 
--- ---- "No walk inside a run is tangled; no index inside a run is out of range."
+-- ---- no walk inside a run is tangled, no index inside a run is out of range
 
 -- No walk is tangled: no ring list of the table answers 15, and from a live corner the walk never tangles. The commands walk by opposites
 -- alone, and that ring is what the walk visits. They begin at a live corner, also one that is refused: at a corner of the target's face, or at

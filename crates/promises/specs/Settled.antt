@@ -1,5 +1,5 @@
--- "Any two outcomes allowed by [the contract] are equal": for each entry point but the run and the command (see Promises.antt), two calls that
--- meet its contract on the same input answer and leave the same. Refused calls too. The theorems are in proofs/Settled.antt.
+-- "any two outcomes allowed by it are equal": for each entry point but the run and the command (see Promises.antt), two calls that meet its
+-- contract on the same input answer and leave the same. Refused calls too. The theorems are in proofs/Settled.antt.
 use Prim.Native.Nat.{ℕ}
 use mathlib.Core.Path.{_≡_}
 use mathlib.Core.List.{List}

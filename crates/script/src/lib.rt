@@ -88,18 +88,8 @@ pub fn run(
         if fits(script.len(), answers.len()) {
             let v = checker::check(cv, co, cm, vc, vm, vp, counts);
             if v.answer == 0 {
-                let after = run_commands(
-                    cv,
-                    co,
-                    cm,
-                    vc,
-                    vm,
-                    vp,
-                    counts,
-                    script,
-                    answers,
-                    script.len() / 5,
-                );
+                let n = script.len() / 5;
+                let after = run_commands(cv, co, cm, vc, vm, vp, counts, script, answers, n);
                 return Ran {
                     answer: 0,
                     rule: 0,

@@ -1,4 +1,4 @@
--- What a command leaves and answers, from a well-formed table. "Each command's outcome is the definition applied to the table before it."
+-- What a command leaves and answers, from a well-formed table: "demand 2 applied to each command from the table before it."
 use Prim.Native.Nat.{ℕ}
 use mathlib.Core.Path.{_≡_}
 use Rattle.table.specs.Table.{Table, Shaped}
