@@ -184,18 +184,18 @@ fn move_of<'a>(
     ensures { λ r. ⌜ r ≡ moveOf kind (table (now (cv .entry)) (now (co .entry)) (now (cm .entry)) (now (vc .entry)) (now (vm .entry)) (now (vp .entry)) vertices corners) (corner .0) ⌝ }
 {
     if kind == 0 {
-        return walker::next_from(corner, cv, co, cm, vc, vm, vp, vertices, corners);
+        return replay_moves::moved_to_next(corner, cv, co, cm, vc, vm, vp, vertices, corners);
     }
     if kind == 1 {
-        return walker::previous_from(corner, cv, co, cm, vc, vm, vp, vertices, corners);
+        return replay_moves::moved_to_previous(corner, cv, co, cm, vc, vm, vp, vertices, corners);
     }
     if kind == 2 {
-        return walker::opposite_from(corner, cv, co, cm, vc, vm, vp, vertices, corners);
+        return replay_moves::moved_to_opposite(corner, cv, co, cm, vc, vm, vp, vertices, corners);
     }
     if kind == 3 {
-        return walker::swing_left_from(corner, cv, co, cm, vc, vm, vp, vertices, corners);
+        return replay_moves::swung_left(corner, cv, co, cm, vc, vm, vp, vertices, corners);
     }
-    walker::swing_right_from(corner, cv, co, cm, vc, vm, vp, vertices, corners)
+    replay_moves::swung_right(corner, cv, co, cm, vc, vm, vp, vertices, corners)
 }
 
 fn replay_move<'a>(

@@ -4,47 +4,47 @@ use borrow.Author.Needs.{needs}
 use Rattle.replay_looks.proofs.move_of.Statement.{statement}
 use Rattle.replay_looks.proofs.move_of.Tie as tie
 
-next-from-requires : tie.Need-next-from-requires
-next-from-requires c κs = search needs
+moved-to-next-requires : tie.Need-moved-to-next-requires
+moved-to-next-requires c κs = search needs
 
 returns : tie.Need-returns
-returns c = c .next-from .ensures ∙ move-0 _ _ _ (c .before .if1 .taken)
+returns c = c .moved-to-next .ensures ∙ move-0 _ _ _ (c .before .if1 .taken)
 
-previous-from-requires : tie.Need-previous-from-requires
-previous-from-requires c κs = search needs
+moved-to-previous-requires : tie.Need-moved-to-previous-requires
+moved-to-previous-requires c κs = search needs
 
 returns-2 : tie.Need-returns-2
-returns-2 c = c .previous-from .ensures ∙ move-1 _ _ _ (c .before .if2 .taken)
+returns-2 c = c .moved-to-previous .ensures ∙ move-1 _ _ _ (c .before .if2 .taken)
 
-opposite-from-requires : tie.Need-opposite-from-requires
-opposite-from-requires c κs = search needs
+moved-to-opposite-requires : tie.Need-moved-to-opposite-requires
+moved-to-opposite-requires c κs = search needs
 
 returns-3 : tie.Need-returns-3
-returns-3 c = c .opposite-from .ensures ∙ move-2 _ _ _ (c .before .if3 .taken)
+returns-3 c = c .moved-to-opposite .ensures ∙ move-2 _ _ _ (c .before .if3 .taken)
 
-swing-left-from-requires : tie.Need-swing-left-from-requires
-swing-left-from-requires c κs = search needs
+swung-left-requires : tie.Need-swung-left-requires
+swung-left-requires c κs = search needs
 
 returns-4 : tie.Need-returns-4
-returns-4 c = c .swing-left-from .ensures ∙ move-3 _ _ _ (c .before .if4 .taken)
+returns-4 c = c .swung-left .ensures ∙ move-3 _ _ _ (c .before .if4 .taken)
 
-swing-right-from-requires : tie.Need-swing-right-from-requires
-swing-right-from-requires c κs = search needs
+swung-right-requires : tie.Need-swung-right-requires
+swung-right-requires c κs = search needs
 
 returns-5 : tie.Need-returns-5
-returns-5 c = c .swing-right-from .ensures ∙ move-4 _ _ _ (c .before .before .before .before .if1 .left) (c .before .before .before .if2 .left) (c .before .before .if3 .left) (c .before .if4 .left)
+returns-5 c = c .swung-right .ensures ∙ move-4 _ _ _ (c .before .before .before .before .if1 .left) (c .before .before .before .if2 .left) (c .before .before .if3 .left) (c .before .if4 .left)
 
 pub move-of-spec : {M : Type 1} → statement M
 move-of-spec =
     tie.close
     (tie.spec
-    next-from-requires
+    moved-to-next-requires
     returns
-    previous-from-requires
+    moved-to-previous-requires
     returns-2
-    opposite-from-requires
+    moved-to-opposite-requires
     returns-3
-    swing-left-from-requires
+    swung-left-requires
     returns-4
-    swing-right-from-requires
+    swung-right-requires
     returns-5)
