@@ -29,9 +29,6 @@ six-push6 l n a b c d e f =
     let q : n + 3 + 2 ≡ n + 5 = omega arith in
     rw (p, q)
 
-pub length-push6 : (l : List ℕ) (n a b c d e f : ℕ) → length (push6 l n a b c d e f) ≡ length l
-length-push6 l n a b c d e f = simp length-set
-
 pub push6-seen : {l : List ℕ} {g : ℕ → ℕ} {x k : ℕ} (n a b c d e f : ℕ) → Seen l g x k
     → Seen (push6 l n a b c d e f) (at (n + 5) f (at (n + 4) e (at (n + 3) d (at (n + 2) c (at (n + 1) b (at n a g)))))) x k
 push6-seen n a b c d e f s =

@@ -10,7 +10,7 @@ use Rattle.table.specs.Euler.{SameEuler}
 use Rattle.edit.specs.declared.Around.{Around}
 use Rattle.edit.specs.declared.Triangle.{Triangle}
 
--- "the table is well-formed and V−E+F is what it was"; the lent parts keep their lengths
+-- demand 3: the table is well-formed and V−E+F is what it was; the lent parts keep their lengths
 pub record Kept (t u : Table) : Type 0 where
   pub shaped : Shaped u
   pub wellFormed : WellFormed u
