@@ -49,7 +49,8 @@ module _ (test : ℕ → Bool) where
   from-first zero i p = record { within = omega arith; passes = p; fails = λ h. absurd (omega arith) }
   from-first (suc k) i p = go (λ e. from-first k (suc i) (λ j h. below-more (λ j. test j ≡ true) i p e j (omega arith))) (test i) refl
     where
-      go : (test i ≡ true → First (k + suc i) (firstFrom test k (suc i))) → (b : Bool) → test i ≡ b → First (suc k + i) (cond (test i) (firstFrom test k (suc i)) i)
+      go : (test i ≡ true → First (k + suc i) (firstFrom test k (suc i))) → (b : Bool) → test i ≡ b
+          → First (suc k + i) (cond (test i) (firstFrom test k (suc i)) i)
       go ih true e =
           let f : First (k + suc i) (firstFrom test k (suc i)) = ih e in
           rw e (record { within = omega (arith, f .within); passes = f .passes; fails = λ h. f .fails (omega arith) })

@@ -1,107 +1,37 @@
 -- What the verdict means: 0 exactly for the well-formed tables, 1 exactly for those whose parts disagree, and 7 names the lowest rule
 -- and slot. Assumes nothing.
-use Prim.Native.Nat.{ℕ, zero, suc, _≤_, _<_}
+use Prim.Native.Nat.{ℕ, _≤_, _<_}
 use mathlib.Core.Path.{_≡_, refl, sym, ap, subst, _∙_}
 use mathlib.Core.Bool.{Bool, true, false, false≢true}
 use native.Mathlib.Omega.{arith}
-use native.Mathlib.Decide.{ℕ-discrete, decLt}
-use borrow.Author.Tests.{lt-ltb, le-ltb, leb-true, leb-false, le-leb}
+use native.Mathlib.Decide.{decLt}
+use borrow.Author.Tests.{lt-ltb, le-ltb, leb-false}
 use Rattle.table.specs.Table.{Table, shaped, Shaped}
 use Rattle.table.specs.Rules.{WellFormed}
 use Rattle.table.proofs.Shape.{shaped-true, true-shaped}
 use Rattle.fan.proofs.Tables.{table-linked}
+use Rattle.kinds.specs.Kinds.{tests, testAt, ruleOf, span, slotOf}
+use Rattle.kinds.specs.declared.Test.{Test}
+use Rattle.kinds.specs.declared.Test.the-variants.{Counts, CornerMark, FaceMark, VertexMark, CornerVertex}
+use Rattle.kinds.specs.declared.Test.the-variants.{FaceVertex, Opposite, VertexCorner, CornerFan, Finite}
+use Rattle.kinds.proofs.Places.{place, test-place, place-test, rule-order}
+use Rattle.rules.specs.Tests.{holds, AllHold}
+use Rattle.rules.proofs.Walks.{fan-near}
+use Rattle.rules.proofs.Rules.{At, holds-at, at-holds}
 use Rattle.checker.specs.First.{firstBad}
-use Rattle.checker.specs.Tests.{holds}
-use Rattle.checker.specs.Order.{tests, testAt, ruleOf, span, slotOf, firstOf, clean, passed, disagree, broken, ruled, verdictOf}
+use Rattle.checker.specs.Order.{firstOf, clean, passed, disagree, broken, ruled, verdictOf}
 use Rattle.checker.specs.Blame.{AllKeep, Blames, Judged, unshaped, sound, blamed}
-use Rattle.checker.specs.declared.Test.{Test}
-use Rattle.checker.specs.declared.Test.the-variants.{Counts, CornerMark, FaceMark, VertexMark, CornerVertex, FaceVertex, Opposite, VertexCorner, CornerFan, Finite}
 use Rattle.checker.specs.declared.Verdict.{Verdict}
 use Rattle.checker.proofs.First.{First, first-bad, all-pass, pass-all}
-use Rattle.checker.proofs.Rules.{At, holds-at, at-holds}
-use Rattle.checker.proofs.Walks.{fan-near}
-use Rattle.checker.proofs.Keeping.{place, All, Before, counts, face-mark, corner-vertex, face-vertex, opposites, vertex-corner, fans-keep, keeps-below, keeps-holds, slot-used, all-keep}
-
--- ---- the order of the tests
-
-pub test-place : (test : Test) → testAt (place test) ≡ test
-unfolding place testAt
-test-place Counts = refl
-test-place CornerMark = refl
-test-place FaceMark = refl
-test-place VertexMark = refl
-test-place CornerVertex = refl
-test-place FaceVertex = refl
-test-place Opposite = refl
-test-place VertexCorner = refl
-test-place CornerFan = refl
-test-place Finite = refl
-
-pub place-small : (test : Test) → place test < tests
-unfolding place
-place-small Counts = omega arith
-place-small CornerMark = omega arith
-place-small FaceMark = omega arith
-place-small VertexMark = omega arith
-place-small CornerVertex = omega arith
-place-small FaceVertex = omega arith
-place-small Opposite = omega arith
-place-small VertexCorner = omega arith
-place-small CornerFan = omega arith
-place-small Finite = omega arith
-
-place-test : (k : ℕ) → k < tests → place (testAt k) ≡ k
-unfolding place testAt
-place-test zero h = refl
-place-test (suc zero) h = refl
-place-test (suc (suc zero)) h = refl
-place-test (suc (suc (suc zero))) h = refl
-place-test (suc (suc (suc (suc zero)))) h = refl
-place-test (suc (suc (suc (suc (suc zero))))) h = refl
-place-test (suc (suc (suc (suc (suc (suc zero)))))) h = refl
-place-test (suc (suc (suc (suc (suc (suc (suc zero))))))) h = refl
-place-test (suc (suc (suc (suc (suc (suc (suc (suc zero)))))))) h = refl
-place-test (suc (suc (suc (suc (suc (suc (suc (suc (suc zero))))))))) h = refl
-place-test (suc (suc (suc (suc (suc (suc (suc (suc (suc (suc k)))))))))) h = absurd (omega arith)
-
--- the rules come in ascending order
-rule-next : (k : ℕ) → ruleOf (testAt k) ≤ ruleOf (testAt (suc k))
-unfolding ruleOf testAt
-rule-next zero = omega arith
-rule-next (suc zero) = omega arith
-rule-next (suc (suc zero)) = omega arith
-rule-next (suc (suc (suc zero))) = omega arith
-rule-next (suc (suc (suc (suc zero)))) = omega arith
-rule-next (suc (suc (suc (suc (suc zero))))) = omega arith
-rule-next (suc (suc (suc (suc (suc (suc zero)))))) = omega arith
-rule-next (suc (suc (suc (suc (suc (suc (suc zero))))))) = omega arith
-rule-next (suc (suc (suc (suc (suc (suc (suc (suc zero)))))))) = omega arith
-rule-next (suc (suc (suc (suc (suc (suc (suc (suc (suc k))))))))) = omega arith
-
-rule-order : (j k : ℕ) → k ≤ j → ruleOf (testAt k) ≤ ruleOf (testAt j)
-rule-order zero k h = omega (arith, ap (λ (x : ℕ). ruleOf (testAt x)) (none k h))
-  where
-    none : (k : ℕ) → k ≤ 0 → k ≡ zero
-    none k h = omega arith
-rule-order (suc j) k h = go (λ l. rule-order j k l) (ℕ-discrete k (suc j))
-  where
-    go : (k ≤ j → ruleOf (testAt k) ≤ ruleOf (testAt j)) → Dec (k ≡ suc j) → ruleOf (testAt k) ≤ ruleOf (testAt (suc j))
-    go ih (yes e) = omega (arith, ap (λ (x : ℕ). ruleOf (testAt x)) e)
-    go ih (no n) = omega (arith, ih (omega arith), rule-next j)
+use Rattle.checker.proofs.Order.{clean-all, all-clean}
+use Rattle.checker.proofs.Keeping.{Before, counts, face-mark, corner-vertex, face-vertex, opposites, vertex-corner, fans-keep}
+use Rattle.checker.proofs.Keeping.{keeps-below, keeps-holds, slot-used, all-keep}
 
 passed-not : (r s : ℕ) → broken r s ≡ passed → ⊥
 passed-not r s e = let z : _≡_ {A = ℕ} 7 0 = ap (λ (v : Verdict). v .answer) e in omega arith
 
 module _ (t : Table) where
   -- ---- every test passes, and the table is well-formed
-
-  clean-all : (k : ℕ) → clean t k ≡ true → All t (testAt k)
-  unfolding clean firstOf
-  clean-all k h = all-pass (holds (testAt k) t) (span (testAt k) (t .vertices) (t .corners)) (leb-true _ _ h)
-
-  all-clean : (k : ℕ) → All t (testAt k) → clean t k ≡ true
-  unfolding clean firstOf
-  all-clean k h = le-leb _ _ (pass-all (holds (testAt k) t) (span (testAt k) (t .vertices) (t .corners)) h)
 
   module _ (S : Shaped t) (h : Before t tests) where
     three : Before t 3
@@ -144,7 +74,7 @@ module _ (t : Table) where
         fan-near (t .cornerOpposite) (table-linked t S W) (t .corners) (λ d n. n .0) _ c (W .cornerLive _ (W .vertexLive c m)) m (W .oneFan c m)
     at-all Finite v l = W .finite v
 
-    well-formed-all : (test : Test) → All t test
+    well-formed-all : (test : Test) → AllHold test t
     well-formed-all test i l = at-holds t test i (at-all test i l)
 
   -- ---- the verdict
@@ -158,7 +88,7 @@ module _ (t : Table) where
         let n = span (testAt k) (t .vertices) (t .corners) in
         let g : First (holds (testAt k) t) n (firstBad (holds (testAt k) t) n) = first-bad (holds (testAt k) t) n in
         let w : firstBad (holds (testAt k) t) n < n = leb-false _ _ (f .fails l) in
-        rw (lt-ltb _ _ l) (blamed S (blame k l (λ j s. clean-all j (f .passes j s)) (firstBad (holds (testAt k) t) n) w (g .fails w) (g .passes)))
+        rw (lt-ltb _ _ l) (blamed S (blame k l (λ j s. clean-all t j (f .passes j s)) (firstBad (holds (testAt k) t) n) w (g .fails w) (g .passes)))
       where
         blame : (k : ℕ) → k < tests → Before t k → (i : ℕ) → i < span (testAt k) (t .vertices) (t .corners) → holds (testAt k) t i ≡ false
             → ((j : ℕ) → j < i → holds (testAt k) t j ≡ true) → Blames t (ruleOf (testAt k)) (slotOf (testAt k) i)
@@ -189,7 +119,7 @@ module _ (t : Table) where
     all-passed : tests ≤ firstBad (clean t) tests → Judged t (ruled t)
     unfolding ruled
     all-passed h =
-        rw (le-ltb _ _ h) (sound S (all-well-formed S (λ k l. clean-all k (all-pass (clean t) tests h k l))))
+        rw (le-ltb _ _ h) (sound S (all-well-formed S (λ k l. clean-all t k (all-pass (clean t) tests h k l))))
 
     judged-ruled : Judged t (ruled t)
     judged-ruled = go (decLt (firstBad (clean t) tests) tests)
@@ -219,7 +149,7 @@ module _ (t : Table) where
   pub verdict-complete : Shaped t → WellFormed t → verdictOf t ≡ passed
   unfolding verdictOf ruled
   verdict-complete S W =
-      rw (true-shaped t S, le-ltb _ _ (pass-all (clean t) tests (λ k l. all-clean k (well-formed-all S W (testAt k)))))
+      rw (true-shaped t S, le-ltb _ _ (pass-all (clean t) tests (λ k l. all-clean t k (well-formed-all S W (testAt k)))))
 
   -- 1 exactly where the parts disagree
   pub verdict-shaped : Shaped t → verdictOf t .answer ≡ 1 → ⊥

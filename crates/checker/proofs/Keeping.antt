@@ -10,26 +10,15 @@ use Rattle.table.specs.Slots.{markAt}
 use Rattle.table.specs.Table.{Table, cornerRoom, vertexRoom, vertex, opposite, corner, Live, LiveVertex, Shaped}
 use Rattle.table.specs.Rules.{Fan, Mate}
 use Rattle.fan.proofs.Fan.{Linked, linked, Left, Conn, conn-sym, conn-trans, conn-live, conn-vertex, fan-conn, conn-fan}
-use Rattle.checker.specs.Tests.{holds}
-use Rattle.checker.specs.Order.{testAt, span, slotOf}
+use Rattle.kinds.specs.Kinds.{testAt, span, slotOf}
+use Rattle.kinds.specs.declared.Test.{Test}
+use Rattle.kinds.specs.declared.Test.the-variants.{Counts, CornerMark, FaceMark, VertexMark, CornerVertex}
+use Rattle.kinds.specs.declared.Test.the-variants.{FaceVertex, Opposite, VertexCorner, CornerFan, Finite}
+use Rattle.kinds.proofs.Places.{place}
+use Rattle.rules.specs.Tests.{holds, AllHold}
+use Rattle.rules.proofs.Walks.{Hit, near-hit, fan-near}
+use Rattle.rules.proofs.Rules.{At, holds-at, at-holds}
 use Rattle.checker.specs.Blame.{Keeps, Slot}
-use Rattle.checker.specs.declared.Test.{Test}
-use Rattle.checker.specs.declared.Test.the-variants.{Counts, CornerMark, FaceMark, VertexMark, CornerVertex, FaceVertex, Opposite, VertexCorner, CornerFan, Finite}
-use Rattle.checker.proofs.Walks.{Hit, near-hit, fan-near}
-use Rattle.checker.proofs.Rules.{At, holds-at, at-holds}
-
--- when a test's turn comes
-unfoldable pub place : Test → ℕ
-place Counts = 0
-place CornerMark = 1
-place FaceMark = 2
-place VertexMark = 3
-place CornerVertex = 4
-place FaceVertex = 5
-place Opposite = 6
-place VertexCorner = 7
-place CornerFan = 8
-place Finite = 9
 
 -- ---- the three corners of a face, from its first one
 
@@ -114,11 +103,8 @@ module _ (t : Table) where
 
   -- ---- with tests passed
 
-  abbrev pub All : Test → Type 0
-  All test = (i : ℕ) → i < span test (t .vertices) (t .corners) → holds test t i ≡ true
-
   abbrev pub Before : ℕ → Type 0
-  Before k = (l : ℕ) → l < k → All (testAt l)
+  Before k = (l : ℕ) → l < k → AllHold (testAt l) t
 
   before : (j k : ℕ) → j ≤ k → Before k → Before j
   before j k u h l s = h l (omega arith)
@@ -265,6 +251,6 @@ module _ (t : Table) where
   slot-below Finite h j u = u
 
   -- so where a test passes everywhere, all its slots keep the rule
-  pub all-keep : Shaped t → (test : Test) → Before (place test) → All test → (j : ℕ) → Slot test t j → Keeps test t j
+  pub all-keep : Shaped t → (test : Test) → Before (place test) → AllHold test t → (j : ℕ) → Slot test t j → Keeps test t j
   all-keep S test h a j u =
       keeps-below S test h (span test (t .vertices) (t .corners)) (λ i l. a i l) j (slot-below test h j u) u

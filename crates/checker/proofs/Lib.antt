@@ -1,11 +1,6 @@
--- Laws of the checker's loops, of its tests and of its verdict.
+-- Laws of the checker's loops and of its verdict.
 pub mod First
-pub mod Arms
 pub mod Order
-pub mod Words
-pub mod Quick
-pub mod Walks
-pub mod Rules
 pub mod Keeping
 pub mod Judge
 pub mod Meshes

@@ -5,13 +5,16 @@ use mathlib.Core.List.{[], _∷_}
 use lib.Ieee.{ofBits, binary32}
 use lib.ListN.{set}
 use Rattle.corner.specs.Corner.{absent, next, previous}
-use Rattle.table.specs.Table.{Table, shapedBy, live, Shaped, withCornerVertex, withCornerOpposite, withCornerMark, withVertexCorner, withVertexPoint, withCounts}
+use Rattle.table.specs.Table.{Table, shapedBy, live, Shaped}
+use Rattle.table.specs.Table.{withCornerVertex, withCornerOpposite, withCornerMark, withVertexCorner, withVertexPoint, withCounts}
 use Rattle.table.specs.Rules.{WellFormed}
 use Rattle.table.specs.Slots.{nought}
 use Rattle.table.specs.Meshes.{one, two, three, meshA, meshB, meshT}
+use Rattle.kinds.specs.Kinds.{testAt, ruleOf, span, slotOf}
+use Rattle.rules.specs.Tests.{swing, near, countsTest, markTest, faceTest, vertexTest, differTest, backTest, matesTest, oppositeTest}
+use Rattle.rules.specs.Tests.{cornerTest, fanTest, pointTest, holds}
 use Rattle.checker.specs.First.{firstFrom, firstBad}
-use Rattle.checker.specs.Tests.{swing, near, countsTest, markTest, faceTest, vertexTest, differTest, backTest, matesTest, oppositeTest, cornerTest, fanTest, pointTest, holds}
-use Rattle.checker.specs.Order.{testAt, ruleOf, span, slotOf, firstOf, clean, passed, broken, ruled, verdictOf}
+use Rattle.checker.specs.Order.{firstOf, clean, passed, broken, ruled, verdictOf}
 use Rattle.checker.specs.declared.Verdict.{Verdict}
 use Rattle.checker.proofs.Judge.{verdict-sound, seven-refutes}
 

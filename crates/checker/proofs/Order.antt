@@ -1,29 +1,28 @@
 -- The loop over the tests, and the arms of the verdict. Assumes nothing.
-use Prim.Native.Nat.{ℕ, zero, suc, _<_, _≤_}
-use mathlib.Core.Path.{_≡_, refl, ap, _∙_}
+use Prim.Native.Nat.{ℕ, _<_, _≤_}
+use mathlib.Core.Path.{_≡_, ap, _∙_}
 use mathlib.Core.Bool.{Bool, true, false}
-use borrow.Author.Tests.{le-leb, lt-leb, lt-ltb, le-ltb}
+use borrow.Author.Tests.{leb-true, le-leb, lt-leb, lt-ltb, le-ltb}
 use Rattle.table.specs.Table.{Table, shaped}
-use Rattle.checker.specs.Order.{tests, testAt, span, ruleOf, slotOf, firstOf, clean, passed, disagree, broken, ruled, verdictOf}
-use Rattle.checker.specs.declared.Test.{Test}
-use Rattle.checker.specs.declared.Test.the-variants.{Finite}
+use Rattle.kinds.specs.Kinds.{tests, testAt, span, ruleOf, slotOf}
+use Rattle.kinds.specs.declared.Test.{Test}
+use Rattle.rules.specs.Tests.{holds, AllHold}
+use Rattle.checker.specs.Order.{firstOf, clean, passed, disagree, broken, ruled, verdictOf}
 use Rattle.checker.specs.declared.Verdict.{Verdict}
-use Rattle.checker.proofs.First.{Passed, passed-bad, passed-all}
+use Rattle.checker.proofs.First.{Passed, passed-bad, passed-all, all-pass, pass-all}
 
-pub test-rest : (k : ℕ) → (k ≡ 0 → ⊥) → (k ≡ 1 → ⊥) → (k ≡ 2 → ⊥) → (k ≡ 3 → ⊥) → (k ≡ 4 → ⊥) → (k ≡ 5 → ⊥) → (k ≡ 6 → ⊥) → (k ≡ 7 → ⊥) → (k ≡ 8 → ⊥) → Finite ≡ testAt k
-unfolding testAt
-test-rest zero n0 n1 n2 n3 n4 n5 n6 n7 n8 = absurd (n0 refl)
-test-rest (suc zero) n0 n1 n2 n3 n4 n5 n6 n7 n8 = absurd (n1 refl)
-test-rest (suc (suc zero)) n0 n1 n2 n3 n4 n5 n6 n7 n8 = absurd (n2 refl)
-test-rest (suc (suc (suc zero))) n0 n1 n2 n3 n4 n5 n6 n7 n8 = absurd (n3 refl)
-test-rest (suc (suc (suc (suc zero)))) n0 n1 n2 n3 n4 n5 n6 n7 n8 = absurd (n4 refl)
-test-rest (suc (suc (suc (suc (suc zero))))) n0 n1 n2 n3 n4 n5 n6 n7 n8 = absurd (n5 refl)
-test-rest (suc (suc (suc (suc (suc (suc zero)))))) n0 n1 n2 n3 n4 n5 n6 n7 n8 = absurd (n6 refl)
-test-rest (suc (suc (suc (suc (suc (suc (suc zero))))))) n0 n1 n2 n3 n4 n5 n6 n7 n8 = absurd (n7 refl)
-test-rest (suc (suc (suc (suc (suc (suc (suc (suc zero)))))))) n0 n1 n2 n3 n4 n5 n6 n7 n8 = absurd (n8 refl)
-test-rest (suc (suc (suc (suc (suc (suc (suc (suc (suc k))))))))) n0 n1 n2 n3 n4 n5 n6 n7 n8 = refl
+-- a test is clean exactly where it passes at all its slots
+module _ (t : Table) (k : ℕ) where
+  pub clean-all : clean t k ≡ true → AllHold (testAt k) t
+  unfolding clean firstOf
+  clean-all h = all-pass (holds (testAt k) t) (span (testAt k) (t .vertices) (t .corners)) (leb-true _ _ h)
 
-module _ (t : Table) (k : ℕ) (test : Test) (a : test ≡ testAt k) (i : ℕ) (b : i ≡ firstOf test t) (n : ℕ) (d : n ≡ span test (t .vertices) (t .corners)) where
+  pub all-clean : AllHold (testAt k) t → clean t k ≡ true
+  unfolding clean firstOf
+  all-clean h = le-leb _ _ (pass-all (holds (testAt k) t) (span (testAt k) (t .vertices) (t .corners)) h)
+
+module _ (t : Table) (k : ℕ) (test : Test) (a : test ≡ testAt k) (i : ℕ) (b : i ≡ firstOf test t) (n : ℕ)
+    (d : n ≡ span test (t .vertices) (t .corners)) where
   is-first : i ≡ firstOf (testAt k) t
   is-first = b ∙ ap (λ (x : Test). firstOf x t) a
 
@@ -38,7 +37,8 @@ module _ (t : Table) (k : ℕ) (test : Test) (a : test ≡ testAt k) (i : ℕ) (
   unfolding clean
   clean-no h = rw (← is-first, ← is-span, lt-leb _ _ h)
 
-  pub ruled-bad : (rule slot : ℕ) → Passed (clean t) tests k → k < tests → i < n → rule ≡ ruleOf test → slot ≡ slotOf test i → broken rule slot ≡ ruled t
+  pub ruled-bad : (rule slot : ℕ) → Passed (clean t) tests k → k < tests → i < n → rule ≡ ruleOf test → slot ≡ slotOf test i
+      → broken rule slot ≡ ruled t
   unfolding ruled
   ruled-bad rule slot w l h e f =
       rw (← passed-bad (clean t) tests k w (clean-no h), lt-ltb _ _ l, ← is-first, ← a, e, f)

@@ -1,5 +1,4 @@
--- The first index that fails a test, the tests of R1 to R6, their order, and what a verdict means.
+-- The first index that fails a test, the tests one after the other, and what a verdict means.
 pub mod First
-pub mod Tests
 pub mod Order
 pub mod Blame

@@ -1,9 +1,9 @@
 // edge_collapse.rs: the two collapse tests, by walks along rings with no memory. A neighbour of the vertex at corner d stands at the corner
 // before d, which is the opposite that the walk has just crossed to. Cost: the product of the two rings.
 ghost use mathlib.Core.Path.{_≡_};
-ghost use mathlib.Core.Bool.{cond, true};
+ghost use mathlib.Core.Bool.{true};
 ghost use mathlib.Core.List.{List};
-ghost use Prim.Native.Nat.{ℕ, _≤_, _<_};
+ghost use Prim.Native.Nat.{ℕ, _<_};
 ghost use lib.Dec.{eqb, ltb};
 ghost use lib.Ieee.{Float};
 ghost use Rattle.corner.specs.Corner.{absent, previous};
@@ -13,6 +13,7 @@ ghost use Rattle.ring.specs.Ring.{side};
 ghost use Rattle.edge_collapse.specs.EdgeCollapse.{meetsBorder, neighbours, timesIn, commonIn, affectsBoundary, unsafe};
 ghost use Rattle.edge_collapse.specs.Loops.{Counted};
 use corner::Corner;
+use flag::one_if;
 
 // ---- along one ring
 
@@ -35,12 +36,6 @@ fn meets_border(co: &[u32], n: u32, c0: Corner) -> bool
         rest -= 1;
     }
     false
-}
-
-fn one_if(b: bool) -> u32
-    ensures { λ r. ⌜ (r ≡ cond b 1 0) × (r ≤ 1) ⌝ }
-{
-    if b { 1 } else { 0 }
 }
 
 // How often x occurs among the neighbours that the walk to the left from c0 passes after its first.

@@ -17,9 +17,11 @@ use Rattle.command.specs.declared.Edit.the-variants.{Collapse, Flip, SplitEdge,
 use Rattle.command.specs.Answers.{first, targeted, roomFor, collapseAnswer, flipAnswer, splitEdgeAnswer, splitFaceAnswer, answer}
 use Rattle.command.specs.Decode.{decoded, commandAt}
 use Rattle.command.specs.Step.{effect, step}
+use Rattle.kinds.specs.Kinds.{testAt, ruleOf, span, slotOf}
+use Rattle.rules.specs.Tests.{swing, near, countsTest, markTest, faceTest, vertexTest, differTest, backTest, matesTest, oppositeTest}
+use Rattle.rules.specs.Tests.{cornerTest, fanTest, pointTest, holds}
 use Rattle.checker.specs.First.{firstFrom, firstBad}
-use Rattle.checker.specs.Tests.{swing, near, countsTest, markTest, faceTest, vertexTest, differTest, backTest, matesTest, oppositeTest, cornerTest, fanTest, pointTest, holds}
-use Rattle.checker.specs.Order.{testAt, ruleOf, span, slotOf, firstOf, clean, ruled, verdictOf}
+use Rattle.checker.specs.Order.{firstOf, clean, ruled, verdictOf}
 use Rattle.script.specs.Run.{progress, commands, whole, fits, run}
 use Rattle.promises.specs.Rooms.{extended}
 

@@ -2,10 +2,8 @@
 //
 // Every read is total: past the end of the list, or of a record, a word reads 0.
 ghost use mathlib.Core.Path.{_≡_};
-ghost use mathlib.Core.Bool.{_&&_};
 ghost use Prim.Native.Nat.{_+_, _*_, _/_, _<_, _≤_, min};
-ghost use lib.Dec.{eqb, leb};
-ghost use lib.ListN.{length, getD, set, take, drop};
+ghost use lib.ListN.{length, take, drop};
 ghost use Rattle.records.specs.Words.{wordOf, wordAt, written, tabled, wordNo, numberNo};
 ghost use Rattle.records.specs.Same.{every, sameWord, sameNumber, holdsOf, holdNumbersOf, oneUnless};
 ghost use Rattle.records.specs.Tally.{upped, bumped};
@@ -148,12 +146,6 @@ pub fn one_unless(right: bool) -> u32
     ensures { λ r. ⌜ (r ≡ oneUnless right) × (r ≤ 1) ⌝ }
 {
     if right { 0 } else { 1 }
-}
-
-pub fn both(a: bool, b: bool) -> bool
-    ensures { λ r. ⌜ r ≡ (a && b) ⌝ }
-{
-    if a { b } else { false }
 }
 
 // ---- tallies

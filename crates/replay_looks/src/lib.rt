@@ -7,7 +7,7 @@ ghost use Rattle.traversal.specs.Ring.{outcome, ringOf};
 ghost use Rattle.replay_looks.specs.Judge.{wordIs, twoAre, threeAre, builtAs, checkedAs, ranAs, ringedAs, bitOf, movedAs};
 ghost use Rattle.replay_looks.specs.Look.{kindOf, moveOf, nextPart, wholePart, partRight, pointsRight, cornersRight, verticesRight};
 use corner::Corner;
-use records::both;
+use flag::both;
 use records::first;
 use records::hold_numbers;
 use records::holds;

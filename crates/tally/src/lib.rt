@@ -1,12 +1,13 @@
 // Vertices, edges and faces of a table, counted.
 ghost use mathlib.Core.Path.{_≡_};
-ghost use mathlib.Core.Bool.{cond, _&&_, _||_};
-ghost use Prim.Native.Nat.{_≤_};
 ghost use Rattle.table.specs.Table.{table};
 ghost use Rattle.table.specs.Euler.{count, vertexCount, faceCount, bareCount, edgeCount};
 ghost use Rattle.tally.specs.Tally.{passes as passesOf, bare as bareOf, paired as pairedOf};
 ghost use Rattle.tally.specs.Commands.{kindOf, ofKind};
 use corner::Corner;
+use flag::both;
+use flag::either;
+use flag::one_if;
 use table::Counts;
 use table::at;
 use table::is_live;
@@ -18,24 +19,6 @@ pub enum What {
     Faces,
     Bare,
     Paired,
-}
-
-fn one_if(b: bool) -> u32
-    ensures { λ r. ⌜ (r ≡ cond b 1 0) × (r ≤ 1) ⌝ }
-{
-    if b { 1 } else { 0 }
-}
-
-fn both(a: bool, b: bool) -> bool
-    ensures { λ r. ⌜ r ≡ (a && b) ⌝ }
-{
-    if a { b } else { false }
-}
-
-fn either(a: bool, b: bool) -> bool
-    ensures { λ r. ⌜ r ≡ (a || b) ⌝ }
-{
-    if a { true } else { b }
 }
 
 // ---- the table

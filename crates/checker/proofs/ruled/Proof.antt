@@ -4,9 +4,10 @@ use native.Mathlib.Omega.{arith}
 use borrow.Author.Needs.{needs}
 use denote.Ref.{now}
 use Rattle.table.specs.Table.{table}
-use Rattle.checker.specs.Order.{tests, clean}
+use Rattle.kinds.specs.Kinds.{tests}
+use Rattle.checker.specs.Order.{clean}
 use Rattle.checker.proofs.First.{Passed, passed-more}
-use Rattle.checker.proofs.Order.{clean-yes, ruled-bad, ruled-good}
+use Rattle.checker.proofs.Order.{all-clean, clean-yes, ruled-bad, ruled-good}
 use Rattle.checker.proofs.ruled.Statement.{statement}
 use Rattle.checker.proofs.ruled.Tie as tie
 
@@ -20,7 +21,11 @@ settled-requires : tie.Need-settled-requires Inv-loop μ-loop
 settled-requires c κs = search needs
 
 loop-holds : tie.Need-loop-holds Inv-loop μ-loop
-loop-holds c = let z = c .before .before .before .before .before .before .before .args in let s = c .settled .ensures (now (z .vc)) (now (z .vp)) in record { within = s .0; passes = s .1 }
+loop-holds c =
+    let z = c .before .before .before .before .before .before .before .args in
+    let s = c .settled .ensures (now (z .vc)) (now (z .vp)) in
+    let t = table (now (z .cv)) (now (z .co)) (now (z .cm)) (now (z .vc)) (now (z .vm)) (now (z .vp)) (z .nv) (z .nc) in
+    record { within = s .0; passes = λ k l. all-clean t k (s .1 k l) }
 
 test-at-requires : tie.Need-test-at-requires Inv-loop μ-loop
 test-at-requires c κs = search needs
@@ -38,7 +43,10 @@ slot-of-requires : tie.Need-slot-of-requires Inv-loop μ-loop
 slot-of-requires c κs = search needs
 
 returns : tie.Need-returns Inv-loop μ-loop
-returns c = ruled-bad _ _ _ (c .before .before .before .before .before .test-at .ensures) _ (c .before .before .before .before .first-of .ensures) _ (c .before .before .before .span .ensures) _ _ (c .before .before .before .before .before .before .before .loop .inv) (omega arith) (c .before .before .if1 .taken) (c .before .rule-of .ensures) (c .slot-of .ensures)
+returns c =
+    ruled-bad _ _ _ (c .before .before .before .before .before .test-at .ensures) _ (c .before .before .before .before .first-of .ensures)
+    _ (c .before .before .before .span .ensures) _ _ (c .before .before .before .before .before .before .before .loop .inv) (omega arith)
+    (c .before .before .if1 .taken) (c .before .rule-of .ensures) (c .slot-of .ensures)
 
 add-k : tie.Need-add-k Inv-loop μ-loop
 add-k c = omega arith
@@ -47,7 +55,10 @@ loop-less : tie.Need-loop-less Inv-loop μ-loop
 loop-less c = omega arith
 
 loop-again : tie.Need-loop-again Inv-loop μ-loop
-loop-again c = passed-more _ _ _ (c .before .before .before .before .before .loop .inv) (omega arith) (clean-yes _ _ _ (c .before .before .before .test-at .ensures) _ (c .before .before .first-of .ensures) _ (c .before .span .ensures) (c .if1 .left))
+loop-again c =
+    passed-more _ _ _ (c .before .before .before .before .before .loop .inv) (omega arith)
+    (clean-yes _ _ _ (c .before .before .before .test-at .ensures) _ (c .before .before .first-of .ensures) _ (c .before .span .ensures)
+    (c .if1 .left))
 
 returns-2 : tie.Need-returns-2 Inv-loop μ-loop
 returns-2 c = ruled-good _ _ (c .before .loop .inv) (omega arith)

@@ -1,0 +1,2 @@
+-- Laws of the words that put tests together.
+pub mod Words

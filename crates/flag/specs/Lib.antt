@@ -1,0 +1,2 @@
+-- The words that put tests together.
+pub mod Words

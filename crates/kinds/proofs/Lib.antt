@@ -1,0 +1,2 @@
+-- Laws of the order of the tests.
+pub mod Places

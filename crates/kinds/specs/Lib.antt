@@ -1,0 +1,2 @@
+-- The order of the tests.
+pub mod Kinds

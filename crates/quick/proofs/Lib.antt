@@ -1,0 +1,2 @@
+-- Laws of the quick pass.
+pub mod Quick

@@ -1,0 +1,2 @@
+-- What the quick pass says of a corner.
+pub mod Fits

@@ -1,0 +1,4 @@
+-- Laws of the tests: by the arms of their code, and read as the rules.
+pub mod Arms
+pub mod Walks
+pub mod Rules
