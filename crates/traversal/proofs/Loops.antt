@@ -2,11 +2,17 @@
 use Prim.Native.Nat.{ℕ, suc, _+_, _-_, _<_, _≤_}
 use mathlib.Core.Path.{_≡_, refl, sym, ap, _∙_}
 use mathlib.Core.List.{List, [], _∷_, map}
+use mathlib.Core.Bool.{Bool, not}
 use native.Mathlib.Omega.{arith}
 use native.Mathlib.Numerals.{add-one}
 use lib.ListN.{length, set, length-set}
 use lib.Seq.{sets}
+use Rattle.corner.specs.Corner.{turn}
+use Rattle.corner.proofs.Turns.{turn-back, not-turn-twice}
+use Rattle.table.specs.Slots.{oppositeAt}
 use Rattle.traversal.specs.Walk.{Side, stop, more}
+use Rattle.traversal.specs.Swings.{swings, Inside}
+use Rattle.traversal.proofs.Steps.{turn-forth}
 use Rattle.traversal.specs.declared.End.{End}
 
 -- counting, with `rest` of `room` visits left
@@ -34,25 +40,59 @@ module _ (whole here : Side) (room rest : ℕ) (k : Counting whole here room res
       let l : length (here .visits) ≡ length (there .visits) + 1 = ap (λ (s : Side). length (s .visits)) h ∙ omega arith in
       record { le = omega (arith, k .le); count = omega (arith, k .count, k .le); ends = k .ends ∙ ap (λ (s : Side). s .end) h }
 
--- writing: the list l has the entries up to i, and those of the whole side go to l₀ from `first` on
-pub record Writing (f : ℕ → ℕ) (whole here : Side) (l₀ l : List ℕ) (first room rest i : ℕ) : Type 0 where
+-- writing n swings from c₀ to l₀ from `first` on: l has the entries up to i, and the walk goes on at the slot `via`
+pub record Writing (f : ℕ → ℕ) (left : Bool) (opp : List ℕ) (room : ℕ) (l₀ l : List ℕ) (first n c₀ i via : ℕ) : Type 0 where
   pub size : length l ≡ length l₀
-  pub place : i + rest ≡ first + room
-  pub list : sets l i (map f (here .visits)) ≡ sets l₀ first (map f (whole .visits))
+  pub place : i ≤ first + n
+  pub list : sets l i (map f (swings left opp (first + n - i) (turn (not left) via))) ≡ sets l₀ first (map f (swings left opp n c₀))
+  pub inside : Inside left opp room (first + n - i) (turn (not left) via)
 
-pub writing-start : (f : ℕ → ℕ) (s h : Side) (l : List ℕ) (first room : ℕ) → h ≡ s → Writing f s h l l first room room first
-writing-start f s h l first room e =
-    record { size = refl; place = refl; list = ap (λ (x : Side). sets l first (map f (x .visits))) e }
+module _ (f : ℕ → ℕ) (left : Bool) (opp : List ℕ) (room : ℕ) (l₀ : List ℕ) (first n c₀ s : ℕ) where
+  -- where it begins, and where it ends; the loop knows its first corner by the slot that it begins at
+  pub writing-start : (via : ℕ) → via ≡ turn left s → Inside left opp room n s
+      → Writing f left opp room l₀ l₀ first n (turn (not left) via) first via
+  writing-start via e h =
+      let here : turn (not left) via ≡ s = ap (turn (not left)) e ∙ turn-forth left s in
+      let all : first + n - first ≡ n = omega arith in
+      record { size = refl; place = omega arith; list = rw all; inside = rw (here, all) h }
 
-module _ (f : ℕ → ℕ) (whole here : Side) (l₀ l : List ℕ) (first room rest i : ℕ) (k : Writing f whole here l₀ l first room rest i) where
-  pub writing-stop : (e : End) → here ≡ stop e → l ≡ sets l₀ first (map f (whole .visits))
-  writing-stop e h = sym (ap (λ (s : Side). sets l i (map f (s .visits))) h) ∙ k .list
+  module _ (l : List ℕ) (i via : ℕ) (k : Writing f left opp room l₀ l first n c₀ i via) where
+    pub writing-stop : first + n ≤ i → c₀ ≡ s → l ≡ sets l₀ first (map f (swings left opp n s))
+    unfolding swings
+    writing-stop h e =
+        let none : first + n - i ≡ 0 = omega arith in
+        let all : sets l i (map f (swings left opp 0 (turn (not left) via))) ≡ sets l₀ first (map f (swings left opp n c₀)) = rw none at (k .list) in
+        rw e at all
 
-  pub writing-more : (there : Side) (d v : ℕ) → here ≡ more d there → v ≡ f d → (rest ≡ 0 → ⊥)
-      → (l′ : List ℕ) → l′ ≡ set l i v → Writing f whole there l₀ l′ first room (rest - 1) (i + 1)
-  writing-more there d v h e p l′ is =
-      record {
-        size = ap length is ∙ length-set l i v ∙ k .size;
-        place = omega (arith, k .place);
-        list = rw (is, e, add-one) (sym (ap (λ (s : Side). sets l i (map f (s .visits))) h) ∙ k .list);
-      }
+    module _ (more : i < first + n) where
+      one : first + n - i ≡ suc (first + n - (i + 1))
+      one = omega arith
+
+      -- what is left begins with a swing across `via`
+      ahead : Inside left opp room (suc (first + n - (i + 1))) (turn (not left) via)
+      ahead = rw one at (k .inside)
+
+      pub writing-via : via < length opp
+      unfolding Inside
+      writing-via = rw (turn-back left via) at (ahead .0)
+
+      pub writing-over : oppositeAt opp via < room
+      unfolding Inside
+      writing-over = rw (turn-back left via) at (ahead .1)
+
+      pub writing-more : (o : ℕ) → o ≡ oppositeAt opp via → (v : ℕ) → v ≡ f (turn left o) → (l′ : List ℕ) → l′ ≡ set l i v
+          → (on : ℕ) → on ≡ turn (not left) o → Writing f left opp room l₀ l′ first n c₀ (i + 1) on
+      unfolding swings Inside
+      writing-more o at-o v at-v l′ at-l on at-on =
+          let here : turn (not left) on ≡ turn left (oppositeAt opp (turn left (turn (not left) via))) =
+          ap (turn (not left)) at-on ∙ not-turn-twice left o ∙ ap (turn left) (at-o ∙ ap (oppositeAt opp) (sym (turn-back left via))) in
+          let value : v ≡ f (turn left (oppositeAt opp (turn left (turn (not left) via)))) =
+          at-v ∙ ap (λ (x : ℕ). f (turn left x)) (at-o ∙ ap (oppositeAt opp) (sym (turn-back left via))) in
+          let before : sets l i (map f (swings left opp (suc (first + n - (i + 1))) (turn (not left) via))) ≡ sets l₀ first (map f (swings left opp n c₀)) =
+          rw one at (k .list) in
+          record {
+            size = ap length at-l ∙ length-set l i v ∙ k .size;
+            place = omega arith;
+            list = rw (at-l, value, here, add-one) (rw add-one at before);
+            inside = rw here (ahead .2);
+          }

@@ -1,12 +1,12 @@
 -- The walk about a vertex, on any table. Document 01, "Ring lists and the walker".
-use Prim.Native.Nat.{ℕ, zero, suc, _-_}
+use Prim.Native.Nat.{ℕ, zero, suc, _+_, _-_}
 use mathlib.Core.List.{List, [], _∷_, _++_}
 use mathlib.Core.Bool.{Bool, true, false, cond, _&&_}
 use lib.ListN.{length}
 use lib.Dec.{eqb}
 use Rattle.corner.specs.Corner.{absent, next, previous, turn}
 use Rattle.corner.specs.declared.Corner.{Corner}
-use Rattle.table.specs.Slots.{oppositeAt}
+use Rattle.table.specs.Slots.{oppositeAt, markAt}
 use Rattle.table.specs.Table.{live}
 use Rattle.traversal.specs.declared.Swing.{Swing}
 use Rattle.traversal.specs.declared.Swing.the-variants.{Border, Tangled, To}
@@ -16,6 +16,10 @@ use Rattle.traversal.specs.declared.End.the-variants.{AtBorder, AtTangle
 -- "to visit one is to step to all three of its face", and a step to a corner that is not live is a tangle
 unfoldable pub faceLive : List ℕ → ℕ → ℕ → Bool
 faceLive mark used c = live mark used c && (live mark used (next c) && live mark used (previous c))
+
+-- the same marks from the face's first slot on, as the code reads them
+unfoldable pub unmarked : List ℕ → ℕ → Bool
+unmarked mark b = eqb (markAt mark b) 0 && (eqb (markAt mark (b + 1)) 0 && eqb (markAt mark (b + 2)) 0)
 
 -- "swing left is next, opposite, next; swing right is previous, opposite, previous": a border where there is no opposite
 abbrev pub onto : Bool → List ℕ → ℕ → ℕ → Swing
@@ -42,6 +46,10 @@ more d s = record { visits = d ∷ s .visits; end = s .end }
 -- a left walk that is back at its start has closed the ring: "the swing that closes a ring adds no visit"
 abbrev pub closes : Bool → ℕ → ℕ → Bool
 closes left c₀ d = left && eqb d c₀
+
+-- the corner that such a swing crosses to, as the code tests it; a walk to the right has none
+unfoldable pub lastCrossed : Bool → ℕ → ℕ
+lastCrossed left c₀ = cond left (previous c₀) absent
 
 -- what a swing leads to: an end, or a corner that is visited unless it closes the ring
 abbrev pub onSwing : Bool → ℕ → Swing → (ℕ → Side) → Side

@@ -17,7 +17,7 @@ sub-count-side : tie.Need-sub-count-side
 sub-count-side c = omega (arith, face-used _ _ _ (sym (c .before .face-live .ensures) ∙ c .if1 .taken))
 
 count-side-requires : tie.Need-count-side-requires
-count-side-requires c κs = search needs
+count-side-requires c κs = (c .before .before .before .before .pre .0, c .before .before .before .before .pre .1, sym (c .before .face-live .ensures) ∙ c .if1 .taken)
 
 enum-told : tie.Need-enum-told
 enum-told c = search needs
@@ -35,7 +35,7 @@ sub-count-side-3 : tie.Need-sub-count-side-3
 sub-count-side-3 c = omega (arith, c .before .before .count-side .ensures .0, side-bound true (now (c .before .before .before .before .before .before .before .args .co)) (now (c .before .before .before .before .before .before .before .args .cm)) (c .before .before .before .before .before .before .before .args .used) (c .before .before .before .before .before .before .before .args .start .0) (c .before .before .before .before .before .before .before .args .used - 1) (c .before .before .before .before .before .before .before .args .start .0))
 
 count-side-requires-2 : tie.Need-count-side-requires-2
-count-side-requires-2 c κs = search needs
+count-side-requires-2 c κs = (c .before .before .before .before .before .before .before .pre .0, c .before .before .before .before .before .before .before .pre .1, sym (c .before .before .before .before .face-live .ensures) ∙ c .before .before .before .if1 .taken)
 
 enum-told-4 : tie.Need-enum-told-4
 enum-told-4 c = search needs

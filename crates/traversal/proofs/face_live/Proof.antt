@@ -1,46 +1,30 @@
 -- `face_live` meets its contract. Assumes nothing.
-use Rattle.traversal.proofs.Steps.{face-first, face-second, face-third}
+use Rattle.traversal.proofs.Steps.{face-marks, face-out}
+use mathlib.Core.Path.{refl}
 use borrow.Author.Needs.{needs}
 use Rattle.traversal.proofs.face_live.Statement.{statement}
 use Rattle.traversal.proofs.face_live.Tie as tie
+use Rattle.traversal.proofs.face_live.Reads as reads
+use Rattle.traversal.proofs.face_live.Lts as lts
+use Rattle.traversal.proofs.unmarked.Reads as unmarked-reads
 
-cast-is-live : tie.Need-cast-is-live
-cast-is-live c = search needs
+cast-b : tie.Need-cast-b
+cast-b c = search needs
 
-is-live-requires : tie.Need-is-live-requires
-is-live-requires c κs = search needs
+mul-b : tie.Need-mul-b
+mul-b c = search needs
 
-next-index-requires : tie.Need-next-index-requires
-next-index-requires c κs = search needs
+add-if1 : tie.Need-add-if1
+add-if1 c = search needs
 
-is-live-requires-2 : tie.Need-is-live-requires-2
-is-live-requires-2 c κs = search needs
-
-previous-index-requires : tie.Need-previous-index-requires
-previous-index-requires c κs = search needs
-
-is-live-requires-3 : tie.Need-is-live-requires-3
-is-live-requires-3 c κs = search needs
+unmarked-requires : tie.Need-unmarked-requires
+unmarked-requires c κs = search needs
 
 returns : tie.Need-returns
-returns c = face-third _ _ _ _ (c .before .before .before .before .before .before .is-live .ensures) (c .before .before .before .before .before .if1 .taken) _ (cc) (c .before .before .if2 .taken) _ (cc)
+returns c = face-marks _ _ _ _ refl (c .before .if1 .taken) _ (c .unmarked .ensures)
 
 returns-2 : tie.Need-returns-2
-returns-2 c = face-second _ _ _ _ (c .before .before .before .before .is-live .ensures) (c .before .before .before .if1 .taken) _ (cc) (c .if2 .left)
-
-returns-3 : tie.Need-returns-3
-returns-3 c = face-first _ _ _ _ (c .before .is-live .ensures) (c .if1 .left)
+returns-2 c = face-out _ _ _ _ refl (c .if1 .left)
 
 pub face-live-spec : {M : Type 1} → statement M
-face-live-spec =
-    tie.close
-    (tie.spec
-    cast-is-live
-    is-live-requires
-    next-index-requires
-    is-live-requires-2
-    previous-index-requires
-    is-live-requires-3
-    returns
-    returns-2
-    returns-3)
+face-live-spec = tie.close (tie.spec cast-b mul-b add-if1 unmarked-requires returns returns-2)

@@ -1,11 +1,18 @@
 -- `write_open` meets its contract. Assumes nothing.
-use Rattle.traversal.proofs.Answers.{was-open, open-done, one-at-most}
+use Rattle.traversal.proofs.Answers.{was-open, open-done, one-at-most, left-inside, right-inside, first-inside}
 use Rattle.traversal.specs.Lists.{twice}
-use mathlib.Core.Path.{refl}
+use mathlib.Core.Path.{refl, sym, ap, _∙_}
+use mathlib.Core.Bool.{Bool, true, false, cond}
+use Prim.Native.Nat.{ℕ}
 use native.Mathlib.Omega.{arith}
 use borrow.Author.Needs.{needs}
 use Rattle.traversal.proofs.write_open.Statement.{statement}
 use Rattle.traversal.proofs.write_open.Tie as tie
+use Rattle.traversal.proofs.write_open.Reads as reads
+use Rattle.traversal.proofs.write_open.Lts as lts
+use Rattle.traversal.proofs.extra.Reads as extra-reads
+use Rattle.traversal.proofs.twice.Reads as twice-reads
+use Rattle.traversal.proofs.write_part.Reads as write-part-reads
 
 add-seen : tie.Need-add-seen
 add-seen c = omega (arith, was-open _ _ _ _ _ _ (c .before .before .before .before .pre .1 .0) .bound)
@@ -17,13 +24,10 @@ extra-requires : tie.Need-extra-requires
 extra-requires c κs = search needs
 
 add-m : tie.Need-add-m
-add-m c = omega (arith, was-open _ _ _ _ _ _ (c .before .before .before .before .before .pre .1 .0) .bound, c .before .before .before .before .before .pre .0, c .extra .ensures, one-at-most (twice (c .before .before .before .before .before .args .kind)))
-
-sub-write-part : tie.Need-sub-write-part
-sub-write-part c = omega (arith, was-open _ _ _ _ _ _ (c .before .before .before .before .before .pre .1 .0) .start)
+add-m c = omega (arith, was-open _ _ _ _ _ _ (c .before .before .before .before .before .pre .1 .0) .bound, c .before .before .before .before .before .pre .0 .below, c .before .before .before .before .before .pre .0 .vertices, c .extra .ensures, one-at-most (twice (c .before .before .before .before .before .args .kind)))
 
 write-part-requires : tie.Need-write-part-requires
-write-part-requires c κs = (omega (arith, was-open _ _ _ _ _ _ (c .before .before .before .before .before .before .pre .1 .0) .start, c .before .before .before .before .before .before .pre .0), omega arith)
+write-part-requires c κs = (c .before .before .before .before .before .before .pre .0 .below, omega (arith, c .before .before .before .before .before .before .pre .1 .1), first-inside _ _ _ _ _ (c .before .before .before .before .before .before .pre .0) (was-open _ _ _ _ _ _ (c .before .before .before .before .before .before .pre .1 .0) .face) false, left-inside _ _ _ _ _ (c .before .before .before .before .before .before .pre .0) (was-open _ _ _ _ _ _ (c .before .before .before .before .before .before .pre .1 .0) .face) _ (was-open _ _ _ _ _ _ (c .before .before .before .before .before .before .pre .1 .0) .count))
 
 twice-requires : tie.Need-twice-requires
 twice-requires c κs = search needs
@@ -34,20 +38,14 @@ add-i c = omega (arith, was-open _ _ _ _ _ _ (c .before .before .before .before 
 cast-i : tie.Need-cast-i
 cast-i c = search needs
 
-sub-write-part-2 : tie.Need-sub-write-part-2
-sub-write-part-2 c = omega (arith, was-open _ _ _ _ _ _ (c .before .before .before .before .before .before .before .before .before .before .pre .1 .0) .start)
-
-sub-write-part-3 : tie.Need-sub-write-part-3
-sub-write-part-3 c = omega (arith, was-open _ _ _ _ _ _ (c .before .before .before .before .before .before .before .before .before .before .pre .1 .0) .bound)
-
 write-part-requires-2 : tie.Need-write-part-requires-2
-write-part-requires-2 c κs = let k = was-open _ _ _ _ _ _ (c .before .before .before .before .before .before .before .before .before .before .before .pre .1 .0) in (omega (arith, k .start, c .before .before .before .before .before .before .before .before .before .before .before .pre .0), omega (arith, k .bound, c .before .before .before .before .before .before .before .before .before .before .before .pre .0))
+write-part-requires-2 c κs = (c .before .before .before .before .before .before .before .before .before .before .before .pre .0 .below, omega (arith, c .before .before .before .before .before .before .before .before .before .before .before .pre .1 .1, ap (λ (b : Bool). cond {A = ℕ} b 1 0) (c .before .twice .ensures)), first-inside _ _ _ _ _ (c .before .before .before .before .before .before .before .before .before .before .before .pre .0) (was-open _ _ _ _ _ _ (c .before .before .before .before .before .before .before .before .before .before .before .pre .1 .0) .face) true, right-inside _ _ _ _ _ (c .before .before .before .before .before .before .before .before .before .before .before .pre .0) (was-open _ _ _ _ _ _ (c .before .before .before .before .before .before .before .before .before .before .before .pre .1 .0) .face) _ (was-open _ _ _ _ _ _ (c .before .before .before .before .before .before .before .before .before .before .before .pre .1 .0) .count′))
 
 same-length : tie.Need-same-length
 same-length c = search needs
 
 returns : tie.Need-returns
-returns c = open-done _ _ _ _ _ _ _ _ _ _ (was-open _ _ _ _ _ _ (c .before .before .before .before .before .before .before .before .before .before .before .before .before .before .pre .1 .0)) (c .before .before .before .before .before .before .before .before .before .extra .ensures) _ _ _ _ _ (c .before .before .before .before .twice .ensures) refl refl refl (omega (arith, c .before .before .before .before .before .before .before .before .before .before .before .before .before .before .pre .1 .1, c .before .before .before .before .before .before .before .before .before .extra .ensures)) refl (c .before .before .before .before .before .before .before .write-part .ensures) (c .before .before .write-part2 .ensures)
+returns c = open-done _ _ _ _ _ _ _ _ _ _ (was-open _ _ _ _ _ _ (c .before .before .before .before .before .before .before .before .before .before .before .before .before .before .pre .1 .0)) (c .before .before .before .before .before .before .before .before .before .extra .ensures) _ (c .before .before .before .before .before .before .before .before .before .before .before .before .before .before .pre .0) _ _ _ _ (c .before .before .before .before .twice .ensures) refl refl refl (omega (arith, c .before .before .before .before .before .before .before .before .before .before .before .before .before .before .pre .1 .1, c .before .before .before .before .before .before .before .before .before .extra .ensures)) refl (c .before .before .before .before .before .before .before .write-part .ensures) (c .before .before .write-part2 .ensures)
 
 pub write-open-spec : {M : Type 1} → statement M
 write-open-spec =
@@ -57,13 +55,10 @@ write-open-spec =
     add-seen-2
     extra-requires
     add-m
-    sub-write-part
     write-part-requires
     twice-requires
     add-i
     cast-i
-    sub-write-part-2
-    sub-write-part-3
     write-part-requires-2
     same-length
     returns)
