@@ -9,17 +9,17 @@ use native.Mathlib.Numerals.{add-one}
 use borrow.Author.Tests.{leb-true, leb-false, le-leb, lt-leb, lt-ltb, le-ltb, eq-eqb, ne-eqb}
 use lib.ListN.{length, getD, drop, set, length-map, length-append}
 use lib.Seq.{sets, sets-eq}
-use Rattle.table.specs.Slots.{markAt}
+use Rattle.table.specs.Slots.{markAt, oppositeAt}
 use lib.Dec.{leb}
-use Rattle.corner.specs.Corner.{turn}
+use Rattle.corner.specs.Corner.{next, previous}
 use Rattle.table.specs.Table.{Table, Shaped, shaped, corner}
 use Rattle.table.proofs.Shape.{shaped-true}
 use Rattle.traversal.specs.Walk.{faceLive, Side, side, Walk, tangled, closed, open′, leftOf, rightOf, afterLeft, afterRight, walk, visits}
 use Rattle.traversal.specs.Lists.{entry, twice, entries}
 use Rattle.traversal.specs.Ring.{Outcome, outcome, refused, listed, walked, usedCorners, usedVertices, begun, ringOf, counted, needed, tooShort}
-use Rattle.traversal.specs.Swings.{swings, Inside, Fit}
-use Rattle.traversal.proofs.Steps.{side-bound, face-used, face-turn}
-use Rattle.traversal.proofs.Swings.{Made, side-made}
+use Rattle.traversal.specs.Reached.{reached, Inside, Fit}
+use Rattle.traversal.proofs.Steps.{side-bound, face-used}
+use Rattle.traversal.proofs.Reached.{Made, side-made, whole-made}
 use Rattle.traversal.specs.declared.Kind.{Kind}
 use Rattle.traversal.specs.declared.Counted.{Counted}
 use Rattle.traversal.specs.declared.Counted.the-variants.{Tangled, Closed, Open}
@@ -148,38 +148,44 @@ module _ (opp mark : List ℕ) (used c : ℕ) where
           let k′ : m ≡ length (rightOf opp mark used c .visits) = cc (ap counted e) in
           record { face = i; is = e; count = k; count′ = k′; bound = omega (arith, face-used mark used c i, left-bound, right-bound) }
 
--- ---- the two sides as swings, once they are counted
+-- the first corner once more, or not
+length-cond : (b : Bool) (c : ℕ) (r : List ℕ) → length (cond b (c ∷ r) r) ≡ length r + cond b 1 0
+length-cond true c r = omega arith
+length-cond false c r = omega arith
+
+-- ---- the two sides by what they cross to, once they are counted
 
 module _ (opp mark : List ℕ) (used c : ℕ) (cv : List ℕ) (fit : Fit cv opp mark used) (live-face : faceLive mark used c ≡ true) where
-  left-made : Made true opp (length cv) c (leftOf opp mark used c .visits)
-  unfolding leftOf
-  left-made =
-      side-made true opp mark used (length cv) c (fit .opposites) (fit .vertices) (used - 1) c
-      (omega (arith, face-turn mark used c true live-face, fit .opposites))
-
-  right-made : Made false opp (length cv) c (rightOf opp mark used c .visits)
-  unfolding rightOf
-  right-made =
-      side-made false opp mark used (length cv) c (fit .opposites) (fit .vertices) (used - 1 - length (leftOf opp mark used c .visits)) c
-      (omega (arith, face-turn mark used c false live-face, fit .opposites))
-
+  -- the left side with the first corner
   module _ (n : ℕ) (count : n ≡ length (leftOf opp mark used c .visits)) where
-    pub left-swings : swings true opp n c ≡ leftOf opp mark used c .visits
-    left-swings = rw count (sym (left-made .are))
+    left-made : Made true opp (length cv) (previous c) (c ∷ leftOf opp mark used c .visits)
+    unfolding leftOf
+    left-made = whole-made true opp mark used (length cv) c (fit .opposites) (fit .vertices) (used - 1) c live-face
 
-    pub left-inside : Inside true opp (length cv) n c
-    left-inside = rw count (left-made .inside)
+    pub left-reached : reached true opp (n + 1) (previous c) ≡ c ∷ leftOf opp mark used c .visits
+    left-reached = rw (count, add-one) (sym (left-made .are))
 
-  module _ (n : ℕ) (count : n ≡ length (rightOf opp mark used c .visits)) where
-    pub right-swings : swings false opp n c ≡ rightOf opp mark used c .visits
-    right-swings = rw count (sym (right-made .are))
+    pub left-inside : Inside true opp (length cv) (n + 1) (previous c)
+    left-inside = rw (count, add-one) (left-made .inside)
 
-    pub right-inside : Inside false opp (length cv) n c
-    right-inside = rw count (right-made .inside)
+  -- the right side, with the first corner where b says so
+  module _ (b : Bool) (n : ℕ) (count : n ≡ length (rightOf opp mark used c .visits)) where
+    right-made : (b : Bool) → Made false opp (length cv) (cond b (next c) (oppositeAt opp (previous c))) (cond b (c ∷ rightOf opp mark used c .visits) (rightOf opp mark used c .visits))
+    unfolding rightOf
+    right-made true =
+        whole-made false opp mark used (length cv) c (fit .opposites) (fit .vertices) (used - 1 - length (leftOf opp mark used c .visits)) c live-face
+    right-made false =
+        side-made false opp mark used (length cv) c (fit .opposites) (fit .vertices) (used - 1 - length (leftOf opp mark used c .visits)) c
 
-  -- the slot that leads to the first corner
-  pub first-inside : (left : Bool) → turn left c < length cv
-  first-inside left = omega (arith, face-turn mark used c left live-face, fit .vertices)
+    size : n + cond b 1 0 ≡ length (cond b (c ∷ rightOf opp mark used c .visits) (rightOf opp mark used c .visits))
+    size = omega (arith, count, length-cond b c (rightOf opp mark used c .visits))
+
+    module _ (m o : ℕ) (is-m : m ≡ n + cond b 1 0) (is-o : o ≡ cond b (next c) (oppositeAt opp (previous c))) where
+      pub right-reached : reached false opp m o ≡ cond b (c ∷ rightOf opp mark used c .visits) (rightOf opp mark used c .visits)
+      right-reached = rw (is-m, size, is-o) (sym (right-made b .are))
+
+      pub right-inside : Inside false opp (length cv) m o
+      right-inside = rw (is-m, size, is-o) (right-made b .inside)
 
 -- ---- what was written
 
@@ -189,15 +195,6 @@ sets-append l i (x ∷ xs) ys = sets-append (set l i x) (suc i) xs ys ∙ rw (ad
 
 sets-front : (l es : List ℕ) → length es ≤ length l → sets l 0 es ≡ es ++ drop (length es) l
 sets-front l es h = sets-eq es l 0 (rw zero-add h) ∙ rw zero-add
-
--- one part, with the first corner's entry or without
-module _ (f : ℕ → ℕ) (last l : List ℕ) (i c : ℕ) (s : List ℕ) (b : Bool) where
-  pub part-whole : (mid : List ℕ) (v : ℕ) → v ≡ f c → mid ≡ set l i v → last ≡ sets mid (i + 1) (map f s) → b ≡ true
-      → last ≡ sets l i (map f (cond b (c ∷ s) s))
-  part-whole mid v e m w h = w ∙ rw (h, m, e, add-one)
-
-  pub part-rest : last ≡ sets l i (map f s) → b ≡ false → last ≡ sets l i (map f (cond b (c ∷ s) s))
-  part-rest w h = w ∙ rw h
 
 -- ---- an answer as an outcome
 
@@ -220,13 +217,6 @@ module _ (r : Ring) (n : ℕ) (es list : List ℕ) where
   listed-short q h = rw (lt-leb _ _ h) (refusal r list 16 q)
 
 -- how many entries a walk's list has
-length-cond : (b : Bool) (c : ℕ) (r : List ℕ) → length (cond b (c ∷ r) r) ≡ length r + cond b 1 0
-length-cond true c r = omega arith
-length-cond false c r = omega arith
-
-pub one-if : (b : Bool) → b ≡ true → _≡_ {A = ℕ} (cond b 1 0) 1
-one-if b h = rw h
-
 pub one-at-most : (b : Bool) → cond b 1 0 ≤ 1
 one-at-most true = omega arith
 one-at-most false = omega arith
@@ -269,7 +259,7 @@ module _ (kind : Kind) (cv opp mark : List ℕ) (used c : ℕ) (list : List ℕ)
         rw (k .is) (listed-short r (length (visits (closed c lv))) (entries kind cv (closed c lv)) list h (omega (arith, k .count)))
 
     pub closed-done : Fit cv opp mark used → (last : List ℕ) → r .answer ≡ 0 → r .visited ≡ n + 1 → r .written ≡ n + 1 → n + 1 ≤ length list
-        → last ≡ sets list 0 (map (entry kind cv true) (c ∷ swings true opp n c))
+        → last ≡ sets list 0 (map (entry kind cv true) (reached true opp (n + 1) (previous c)))
         → outcome r last ≡ walked kind cv (walk opp mark used c) list
     unfolding lv
     closed-done fit last a v w l e =
@@ -277,7 +267,7 @@ module _ (kind : Kind) (cv opp mark : List ℕ) (used c : ℕ) (list : List ℕ)
         rw (k .is)
         (listed-done r (length (visits (closed c lv))) (entries kind cv (closed c lv)) list last a
         (omega (arith, k .count)) (omega (arith, k .count)) (omega (arith, k .count))
-        (e ∙ rw (left-swings opp mark used c cv fit (k .face) n (k .count))))
+        (e ∙ rw (left-reached opp mark used c cv fit (k .face) n (k .count))))
 
   module _ (n m x : ℕ) (k : IsOpen opp mark used c n m) (extra : x ≡ cond (twice kind) 1 0) (r : Ring) where
     lv′ : List ℕ
@@ -292,19 +282,20 @@ module _ (kind : Kind) (cv opp mark : List ℕ) (used c : ℕ) (list : List ℕ)
         let size = open-size kind cv c lv′ rv in
         rw (k .is) (listed-short r (length (visits (open′ c lv′ rv))) (entries kind cv (open′ c lv′ rv)) list h (omega (arith, k .count, k .count′)))
 
-    pub open-done : Fit cv opp mark used → (b : Bool) (i : ℕ) (mid last : List ℕ) → b ≡ twice kind
+    pub open-done : Fit cv opp mark used → (i o rest : ℕ) (mid last : List ℕ)
         → r .answer ≡ 0 → r .visited ≡ n + 1 + m → r .written ≡ n + 1 + m + x → n + 1 + m + x ≤ length list → i ≡ n + 1
-        → mid ≡ sets list 0 (map (entry kind cv true) (c ∷ swings true opp n c))
-        → last ≡ sets mid i (map (entry kind cv false) (cond b (c ∷ swings false opp m c) (swings false opp m c)))
+        → o ≡ cond (twice kind) (next c) (oppositeAt opp (previous c)) → rest ≡ m + x
+        → mid ≡ sets list 0 (map (entry kind cv true) (reached true opp i (previous c)))
+        → last ≡ sets mid i (map (entry kind cv false) (reached false opp rest o))
         → outcome r last ≡ walked kind cv (walk opp mark used c) list
     unfolding lv′ rv
-    open-done fit b i mid last t a v w l at e e′ =
+    open-done fit i o rest mid last a v w l at from count e e′ =
         let size = open-size kind cv c lv′ rv in
         let els : List ℕ = map (entry kind cv true) (c ∷ lv′) in
         let ers : List ℕ = map (entry kind cv false) (cond (twice kind) (c ∷ rv) rv) in
         let here : i ≡ 0 + length els = omega (arith, k .count, length-map (c ∷ lv′) (entry kind cv true)) in
-        let one : mid ≡ sets list 0 els = e ∙ rw (left-swings opp mark used c cv fit (k .face) n (k .count)) in
-        let two : last ≡ sets mid i ers = e′ ∙ rw (right-swings opp mark used c cv fit (k .face) m (k .count′), t) in
+        let one : mid ≡ sets list 0 els = e ∙ rw (at, left-reached opp mark used c cv fit (k .face) n (k .count)) in
+        let two : last ≡ sets mid i ers = e′ ∙ rw (right-reached opp mark used c cv fit (k .face) (twice kind) m (k .count′) rest o (count ∙ rw extra) from) in
         let all : last ≡ sets list 0 (els ++ ers) =
         two ∙ ap (λ (l′ : List ℕ). sets l′ i ers) one ∙ ap (λ (j : ℕ). sets (sets list 0 els) j ers) here ∙ sym (sets-append list 0 els ers) in
         rw (k .is)

@@ -6,19 +6,17 @@ use mathlib.Core.List.{List, [], _∷_}
 use mathlib.Core.Bool.{Bool, true, false, not, cond, _&&_, false≢true}
 use native.Mathlib.Nat.{suc-sub-suc, sub-zero}
 use native.Mathlib.Omega.{arith}
+use native.Mathlib.Decide.{ℕ-discrete}
 use borrow.Author.Tests.{eq-eqb, ne-eqb, lt-ltb}
 use lib.ListN.{length}
 use lib.Dec.{eqb}
 use Rattle.corner.specs.Corner.{absent, next, previous, turn}
-use Rattle.corner.specs.declared.Corner.{Corner}
 use Rattle.corner.proofs.Turns.{Third, first, second, last, third, next-first, next-second, next-last, previous-first, previous-second, previous-last}
-use Rattle.corner.proofs.Turns.{next-previous, previous-next, next-face, next-injective, previous-injective, turn-back, not-turn-twice}
+use Rattle.corner.proofs.Turns.{next-previous, previous-next, next-face, turn-back, not-turn-twice}
 use Rattle.table.specs.Slots.{oppositeAt, markAt}
 use Rattle.table.specs.Table.{live}
 use Rattle.table.proofs.Lives.{live-true, not-live}
-use Rattle.traversal.specs.Walk.{unmarked, faceLive, lastCrossed, onto, across, swing, Side, closes, stop, more, onSwing, side}
-use Rattle.traversal.specs.declared.Swing.{Swing}
-use Rattle.traversal.specs.declared.Swing.the-variants.{Border, Tangled, To}
+use Rattle.traversal.specs.Walk.{unmarked, faceLive, lastCrossed, Swing, border, tangle, to, swing, Side, closes, stop, more, onSwing, side}
 use Rattle.traversal.specs.declared.End.{End}
 use Rattle.traversal.specs.declared.End.the-variants.{AtBorder, AtTangle, AtStart}
 
@@ -109,72 +107,74 @@ module _ (mark : List ℕ) (used c : ℕ) where
 
 module _ (left : Bool) (opp mark : List ℕ) (used : ℕ) where
   module _ (c o : ℕ) (at : o ≡ oppositeAt opp (turn left c)) where
-    pub swing-border : o ≡ absent → Border ≡ swing left opp mark used c
+    pub swing-border : o ≡ absent → border ≡ swing left opp mark used c
     unfolding swing
     swing-border h = rw (← at, eq-eqb _ _ h)
 
     module _ (there : o ≢ absent) (b : Bool) (is : b ≡ faceLive mark used o) where
-      pub swing-to : (d : Corner) → d .0 ≡ turn left o → b ≡ true → To d ≡ swing left opp mark used c
+      pub swing-tangle : b ≡ false → tangle ≡ swing left opp mark used c
       unfolding swing
-      swing-to d e h = rw (← at, ne-eqb _ _ there, ← is, h) (ap (λ (n : ℕ). To (record { 0 = n })) e)
+      swing-tangle h = rw (← at, ne-eqb _ _ there, ← is, h)
+
+      pub swing-to : b ≡ true → to (turn left o) ≡ swing left opp mark used c
+      unfolding swing
+      swing-to h = rw (← at, ne-eqb _ _ there, ← is, h)
 
   -- what a swing to d found: an opposite in a live face
   pub record Landed (c d : ℕ) : Type 0 where
-    pub there : oppositeAt opp (turn left c) ≢ absent
     pub face : faceLive mark used (oppositeAt opp (turn left c)) ≡ true
     pub at : d ≡ turn left (oppositeAt opp (turn left c))
 
   at-of : Swing → ℕ
-  at-of Border = 0
-  at-of Tangled = 0
-  at-of (To d) = d .0
+  at-of border = 0
+  at-of tangle = 0
+  at-of (to d) = d
 
-  pub swing-landed : (c : ℕ) (d : Corner) → swing left opp mark used c ≡ To d → Landed c (d .0)
+  pub swing-landed : (c d : ℕ) → swing left opp mark used c ≡ to d → Landed c d
   unfolding swing at-of
-  swing-landed c d e = go (eqb (oppositeAt opp (turn left c)) absent) (faceLive mark used (oppositeAt opp (turn left c))) refl refl e
+  swing-landed c d e = go (eqb (oppositeAt opp (turn left c)) absent) (faceLive mark used (oppositeAt opp (turn left c))) refl e
     where
-      go : (a b : Bool) → eqb (oppositeAt opp (turn left c)) absent ≡ a → faceLive mark used (oppositeAt opp (turn left c)) ≡ b
-          → cond a Border (cond b (To (record { 0 = turn left (oppositeAt opp (turn left c)) })) Tangled) ≡ To d → Landed c (d .0)
-      go true b p q z = let y : _≡_ {A = ℕ} 0 1 = cc in absurd (omega arith)
-      go false false p q z = let y : _≡_ {A = ℕ} 0 1 = cc in absurd (omega arith)
-      go false true p q z =
-          record { there = λ h. absurd (false≢true (sym p ∙ eq-eqb _ _ h)); face = q; at = sym (ap at-of z) }
+      go : (a b : Bool) → faceLive mark used (oppositeAt opp (turn left c)) ≡ b
+          → cond a border (cond b (to (turn left (oppositeAt opp (turn left c)))) tangle) ≡ to d → Landed c d
+      go true b q z = let y : _≡_ {A = ℕ} 0 1 = cc in absurd (omega arith)
+      go false false q z = let y : _≡_ {A = ℕ} 0 1 = cc in absurd (omega arith)
+      go false true q z = record { face = q; at = sym (ap at-of z) }
 
   -- ---- a turn of the walk, by what the swing from c was found to be
 
   module _ (c₀ c : ℕ) (r : Swing) (is : r ≡ swing left opp mark used c) where
-    pub side-border : (room : ℕ) → r ≡ Border → side left opp mark used c₀ room c ≡ stop AtBorder
+    pub side-border : (room : ℕ) → r ≡ border → side left opp mark used c₀ room c ≡ stop AtBorder
     unfolding side
     side-border zero h = rw (← is, h)
     side-border (suc room) h = rw (← is, h)
 
-    pub side-tangled : (room : ℕ) → r ≡ Tangled → side left opp mark used c₀ room c ≡ stop AtTangle
+    pub side-tangle : (room : ℕ) → r ≡ tangle → side left opp mark used c₀ room c ≡ stop AtTangle
     unfolding side
-    side-tangled zero h = rw (← is, h)
-    side-tangled (suc room) h = rw (← is, h)
+    side-tangle zero h = rw (← is, h)
+    side-tangle (suc room) h = rw (← is, h)
 
-    module _ (d : Corner) (to : r ≡ To d) (t : Bool) (at : t ≡ closes left c₀ (d .0)) where
+    module _ (d : ℕ) (lands : r ≡ to d) (t : Bool) (at : t ≡ closes left c₀ d) where
       pub side-closed : (room : ℕ) → t ≡ true → side left opp mark used c₀ room c ≡ stop AtStart
       unfolding side
-      side-closed zero h = rw (← is, to, ← at, h)
-      side-closed (suc room) h = rw (← is, to, ← at, h)
+      side-closed zero h = rw (← is, lands, ← at, h)
+      side-closed (suc room) h = rw (← is, lands, ← at, h)
 
       pub side-out : (room : ℕ) → t ≡ false → room ≡ 0 → side left opp mark used c₀ room c ≡ stop AtTangle
       unfolding side
-      side-out room h z = rw (z, ← is, to, ← at, h)
+      side-out room h z = rw (z, ← is, lands, ← at, h)
 
       pub side-more : (room : ℕ) → t ≡ false → (room ≡ 0 → ⊥)
-          → side left opp mark used c₀ room c ≡ more (d .0) (side left opp mark used c₀ (room - 1) (d .0))
+          → side left opp mark used c₀ room c ≡ more d (side left opp mark used c₀ (room - 1) d)
       unfolding side
       side-more zero h p = absurd (p refl)
-      side-more (suc room) h p = rw (← is, to, ← at, h, suc-sub-suc, sub-zero)
+      side-more (suc room) h p = rw (← is, lands, ← at, h, suc-sub-suc, sub-zero)
 
   -- a side makes no more visits than it has room for
   module _ (c₀ : ℕ) where
     none : (s : Swing) → length (onSwing left c₀ s (λ d. stop AtTangle) .visits) ≤ 0
-    none Border = omega arith
-    none Tangled = omega arith
-    none (To d) = go (closes left c₀ (d .0))
+    none border = omega arith
+    none tangle = omega arith
+    none (to d) = go (closes left c₀ d)
       where
         go : (b : Bool) → length (cond b (stop AtStart) (stop AtTangle) .visits) ≤ 0
         go true = omega arith
@@ -182,13 +182,13 @@ module _ (left : Bool) (opp mark : List ℕ) (used : ℕ) where
 
     one-more : (n : ℕ) (k : ℕ → Side) → ((d : ℕ) → length (k d .visits) ≤ n) → (s : Swing)
         → length (onSwing left c₀ s (λ d. more d (k d)) .visits) ≤ suc n
-    one-more n k all Border = omega arith
-    one-more n k all Tangled = omega arith
-    one-more n k all (To d) = go (closes left c₀ (d .0))
+    one-more n k all border = omega arith
+    one-more n k all tangle = omega arith
+    one-more n k all (to d) = go (closes left c₀ d)
       where
-        go : (b : Bool) → length (cond b (stop AtStart) (more (d .0) (k (d .0))) .visits) ≤ suc n
+        go : (b : Bool) → length (cond b (stop AtStart) (more d (k d)) .visits) ≤ suc n
         go true = omega arith
-        go false = suc-le-suc (all (d .0))
+        go false = suc-le-suc (all d)
 
     pub side-bound : (room c : ℕ) → length (side left opp mark used c₀ room c .visits) ≤ room
     unfolding side
@@ -206,10 +206,6 @@ pub turn-face : (left : Bool) (c : ℕ) → turn left c / 3 ≡ c / 3
 turn-face true c = next-face c
 turn-face false c = sym (next-face (previous c)) ∙ ap (λ (d : ℕ). d / 3) (next-previous c)
 
-turn-injective : (left : Bool) (c d : ℕ) → turn left c ≡ turn left d → c ≡ d
-turn-injective true c d e = next-injective c d e
-turn-injective false c d e = previous-injective c d e
-
 -- the swing that closes a ring, by the corner that it crosses to
 closes-last : (left : Bool) (c₀ o : ℕ) → o < absent → o ≡ lastCrossed left c₀ → closes left c₀ (turn left o) ≡ true
 unfolding lastCrossed
@@ -220,21 +216,6 @@ not-last : (left : Bool) (c₀ o : ℕ) → (o ≡ lastCrossed left c₀ → ⊥
 unfolding lastCrossed
 not-last true c₀ o h = ne-eqb (next o) c₀ (λ e. h (sym (previous-next o) ∙ ap previous e))
 not-last false c₀ o h = refl
-
-module _ (mark : List ℕ) (used o x : ℕ) (at : o ≡ x) (b : Bool) (is : b ≡ faceLive mark used o) where
-  pub across-to : used ≤ absent → b ≡ true → To (record { 0 = o }) ≡ across mark used x
-  unfolding across
-  across-to u h =
-      let below : o < absent = omega (arith, face-used mark used o (sym is ∙ h)) in
-      rw (← at, ne-eqb o absent (omega arith), ← is, h)
-
-  pub across-border : o ≡ absent → Border ≡ across mark used x
-  unfolding across
-  across-border h = rw (← at, eq-eqb _ _ h)
-
-  pub across-tangled : b ≡ false → (o ≡ absent → ⊥) → Tangled ≡ across mark used x
-  unfolding across
-  across-tangled h there = rw (← at, ne-eqb _ _ there, ← is, h)
 
 -- ---- from slot to slot by the first slot of the face
 
@@ -261,24 +242,6 @@ module _ (i b : ℕ) (at : b ≡ i / 3 * 3) where
       go (second k) = sym (next-second i k)
       go (last k) = absurd (h (omega arith))
 
--- the last turn
-turned : Bool → Swing → Swing
-turned left Border = Border
-turned left Tangled = Tangled
-turned left (To o) = To (record { 0 = turn left (o .0) })
-
-swing-across : (left : Bool) (opp mark : List ℕ) (used via : ℕ)
-    → turned left (across mark used (oppositeAt opp via)) ≡ swing left opp mark used (turn (not left) via)
-unfolding turned across swing
-swing-across left opp mark used via =
-    rw (turn-back left via) (go (eqb (oppositeAt opp via) absent) (faceLive mark used (oppositeAt opp via)))
-  where
-    go : (a b : Bool) → turned left (cond a Border (cond b (To (record { 0 = oppositeAt opp via })) Tangled))
-        ≡ cond a Border (cond b (To (record { 0 = turn left (oppositeAt opp via) })) Tangled)
-    go true b = refl
-    go false true = refl
-    go false false = refl
-
 module _ (left : Bool) (opp mark : List ℕ) (used : ℕ) where
   -- a loop knows its first corner by the slot that it begins at
   pub at-start : (room c₀ via : ℕ) → via ≡ turn left c₀ → (n : ℕ) (e : End)
@@ -287,54 +250,60 @@ module _ (left : Bool) (opp mark : List ℕ) (used : ℕ) where
       → (n ≡ length (side left opp mark used c₀ room c₀ .visits)) × (e ≡ side left opp mark used c₀ room c₀ .end)
   at-start room c₀ via is n e h = rw (ap (turn (not left)) is ∙ turn-forth left c₀) at h
 
-  module _ (c₀ via : ℕ) (r : Swing) (is : r ≡ across mark used (oppositeAt opp via)) where
-    by : turned left r ≡ swing left opp mark used (turn (not left) via)
-    by = ap (turned left) is ∙ swing-across left opp mark used via
+  -- a turn of the loop at the slot `via`: what lies across it, and whether that is in a live face
+  module _ (c₀ via o : ℕ) (at : o ≡ oppositeAt opp via) (t : Bool) (is : t ≡ faceLive mark used o) where
+    here : ℕ
+    here = turn (not left) via
 
-    pub over-border : (room : ℕ) → r ≡ Border → side left opp mark used c₀ room (turn (not left) via) ≡ stop AtBorder
-    unfolding turned
-    over-border room h = side-border left opp mark used c₀ (turn (not left) via) (turned left r) by room (ap (turned left) h)
+    over : o ≡ oppositeAt opp (turn left here)
+    unfolding here
+    over = at ∙ ap (oppositeAt opp) (sym (turn-back left via))
 
-    pub over-tangled : (room : ℕ) → r ≡ Tangled → side left opp mark used c₀ room (turn (not left) via) ≡ stop AtTangle
-    unfolding turned
-    over-tangled room h = side-tangled left opp mark used c₀ (turn (not left) via) (turned left r) by room (ap (turned left) h)
+    pub over-end : t ≡ false → (e : End) → e ≡ cond (eqb o absent) AtBorder AtTangle → (room : ℕ)
+        → side left opp mark used c₀ room (turn (not left) via) ≡ stop e
+    unfolding here
+    over-end off e ends room = go (ℕ-discrete o absent)
+      where
+        go : Dec (o ≡ absent) → side left opp mark used c₀ room (turn (not left) via) ≡ stop e
+        go (yes h) =
+            side-border left opp mark used c₀ here border (swing-border left opp mark used here o over h) room refl
+            ∙ ap stop (sym (ends ∙ rw (eq-eqb o absent h)))
+        go (no h) =
+            side-tangle left opp mark used c₀ here tangle (swing-tangle left opp mark used here o over h t is off) room refl
+            ∙ ap stop (sym (ends ∙ rw (ne-eqb o absent h)))
 
-    module _ (o : Corner) (to : r ≡ To o) where
-      landed : Landed left opp mark used (turn (not left) via) (turn left (o .0))
-      unfolding turned
-      landed = swing-landed left opp mark used (turn (not left) via) (record { 0 = turn left (o .0) }) (sym by ∙ ap (turned left) to)
+    module _ (on : t ≡ true) where
+      live-face : faceLive mark used o ≡ true
+      live-face = sym is ∙ on
 
-      same : o .0 ≡ oppositeAt opp via
-      same = turn-injective left (o .0) (oppositeAt opp via) (landed .at ∙ ap (λ (x : ℕ). turn left (oppositeAt opp x)) (turn-back left via))
-
-      live-face : faceLive mark used (o .0) ≡ true
-      live-face =
-          ap (faceLive mark used) (same ∙ sym (ap (oppositeAt opp) (turn-back left via))) ∙ landed .face
-
-      pub over-inside : turn (not left) (o .0) < used
-      over-inside = face-turn mark used (o .0) (not left) live-face
+      pub over-inside : turn (not left) o < used
+      over-inside = face-turn mark used o (not left) live-face
 
       module _ (u : used ≤ absent) (last : ℕ) (is-last : last ≡ lastCrossed left c₀) where
-        closing : o .0 ≡ last → closes left c₀ (turn left (o .0)) ≡ true
-        closing h = closes-last left c₀ (o .0) (omega (arith, face-used mark used (o .0) live-face)) (h ∙ is-last)
+        below : o < absent
+        below = omega (arith, face-used mark used o live-face)
 
-        not-closing : (o .0 ≡ last → ⊥) → closes left c₀ (turn left (o .0)) ≡ false
-        not-closing h = not-last left c₀ (o .0) (λ e. h (e ∙ sym is-last))
+        lands : to (turn left o) ≡ swing left opp mark used here
+        lands = swing-to left opp mark used here o over (λ h. absurd (omega (arith, below))) t is on
 
-        pub over-closed : (room : ℕ) → o .0 ≡ last → side left opp mark used c₀ room (turn (not left) via) ≡ stop AtStart
-        unfolding turned
+        pub over-closed : (room : ℕ) → o ≡ last → side left opp mark used c₀ room (turn (not left) via) ≡ stop AtStart
+        unfolding here
         over-closed room h =
-            side-closed left opp mark used c₀ (turn (not left) via) (turned left r) by (record { 0 = turn left (o .0) }) (ap (turned left) to) _ refl room (closing h)
+            side-closed left opp mark used c₀ here (to (turn left o)) lands (turn left o) refl _ refl room
+            (closes-last left c₀ o below (h ∙ is-last))
 
-        pub over-out : (room : ℕ) → (o .0 ≡ last → ⊥) → room ≡ 0 → side left opp mark used c₀ room (turn (not left) via) ≡ stop AtTangle
-        unfolding turned
+        open-still : (o ≡ last → ⊥) → closes left c₀ (turn left o) ≡ false
+        open-still h = not-last left c₀ o (λ e. h (e ∙ sym is-last))
+
+        pub over-out : (room : ℕ) → (o ≡ last → ⊥) → room ≡ 0 → side left opp mark used c₀ room (turn (not left) via) ≡ stop AtTangle
+        unfolding here
         over-out room h z =
-            side-out left opp mark used c₀ (turn (not left) via) (turned left r) by (record { 0 = turn left (o .0) }) (ap (turned left) to) _ refl room (not-closing h) z
+            side-out left opp mark used c₀ here (to (turn left o)) lands (turn left o) refl _ refl room (open-still h) z
 
-        pub over-more : (room : ℕ) → (o .0 ≡ last → ⊥) → (room ≡ 0 → ⊥) → (on : ℕ) → on ≡ turn (not left) (o .0)
+        pub over-more : (room : ℕ) → (o ≡ last → ⊥) → (room ≡ 0 → ⊥) → (next-via : ℕ) → next-via ≡ turn (not left) o
             → side left opp mark used c₀ room (turn (not left) via)
-            ≡ more (turn left (o .0)) (side left opp mark used c₀ (room - 1) (turn (not left) on))
-        unfolding turned
-        over-more room h p on e =
-            side-more left opp mark used c₀ (turn (not left) via) (turned left r) by (record { 0 = turn left (o .0) }) (ap (turned left) to) _ refl room (not-closing h) p
-            ∙ ap (λ (c : ℕ). more (turn left (o .0)) (side left opp mark used c₀ (room - 1) c)) (sym (ap (turn (not left)) e ∙ not-turn-twice left (o .0)))
+            ≡ more (turn left o) (side left opp mark used c₀ (room - 1) (turn (not left) next-via))
+        unfolding here
+        over-more room h p next-via e =
+            side-more left opp mark used c₀ here (to (turn left o)) lands (turn left o) refl _ refl room (open-still h) p
+            ∙ ap (λ (c : ℕ). more (turn left o) (side left opp mark used c₀ (room - 1) c)) (sym (ap (turn (not left)) e ∙ not-turn-twice left o))

@@ -4,19 +4,20 @@
 // that corner to the right too. It is made twice: first with every test, to count, so that a refused call writes nothing; then as many
 // swings again, without a test, to write.
 ghost use mathlib.Core.Path.{_≡_};
-ghost use mathlib.Core.Bool.{true, not, cond};
-ghost use mathlib.Core.List.{List, map, _∷_};
-ghost use Prim.Native.Nat.{ℕ, _+_, _<_, _≤_, min};
-ghost use lib.Dec.{leb};
+ghost use mathlib.Core.Bool.{true, false, not, cond};
+ghost use mathlib.Core.List.{List, map};
+ghost use Prim.Native.Nat.{ℕ, _+_, _*_, _/_, _<_, _≤_, min};
+ghost use lib.Dec.{eqb, leb};
 ghost use lib.ListN.{length, getD};
 ghost use lib.Seq.{sets};
 ghost use Rattle.corner.specs.Corner.{absent, turn};
 ghost use Rattle.table.specs.Slots.{oppositeAt};
 ghost use Rattle.table.specs.Table.{table};
-ghost use Rattle.traversal.specs.Walk.{unmarked as unmarkedOf, faceLive, across, lastCrossed, side, walk};
-ghost use Rattle.traversal.specs.Swings.{swings, Inside, Fit};
+ghost use Rattle.traversal.specs.Walk.{unmarked as unmarkedOf, faceLive, lastCrossed, side, walk};
+ghost use Rattle.traversal.specs.Reached.{reached, Inside, Fit};
 ghost use Rattle.traversal.specs.Lists.{entry as entryOf, twice as twiceOf};
 ghost use Rattle.traversal.specs.Ring.{outcome, walked, begun, ringOf, counted, needed, tooShort};
+ghost use Rattle.traversal.specs.declared.End.the-variants.{AtBorder, AtTangle};
 ghost use Rattle.traversal.specs.declared.Counted.the-variants.{Closed, Open};
 ghost use Rattle.traversal.specs.declared.Kind.{Kind};
 ghost use Rattle.traversal.specs.declared.Kind.the-variants.{Corners, Vertices, Faces, Edges, BoundingEdges};
@@ -36,13 +37,6 @@ pub enum Kind {
     Faces,
     Edges,
     BoundingEdges,
-}
-
-// What a swing finds.
-pub enum Swing {
-    Border,
-    Tangled,
-    To(Corner),
 }
 
 // How one side of a walk ends.
@@ -98,45 +92,28 @@ fn unmarked(cm: &[u32], b: usize) -> bool
     false
 }
 
-// Whether all three corners of c's face are live.
-fn face_live(cm: &[u32], used: u32, c: Corner) -> bool
+// Whether the face that begins at slot b is used, and its three corners live.
+fn all_live(cm: &[u32], used: u32, b: usize) -> bool
     requires { ⌜ used ≤ length (now cm) ⌝ }
-    ensures { λ r. ⌜ r ≡ faceLive (now (cm .entry)) used (c .0) ⌝ }
+    requires { ⌜ b ≤ absent ⌝ }
+    ensures { λ r. ⌜ ((c : ℕ) → b ≡ c / 3 * 3 → r ≡ faceLive (now (cm .entry)) used c) ⌝ }
 {
-    let b = c.0 as usize / 3 * 3;
     if b + 2 < used as usize {
         return unmarked(cm, b);
     }
     false
 }
 
-// What lies across the edge at a slot: a border, or a corner whose face has to be live. A loop over a walk crosses from slot to slot,
-// as the Rust does, so that a step turns about one corner only.
-fn cross(co: &[u32], cm: &[u32], used: u32, via: usize) -> Swing
-    requires { ⌜ (via < length (now co)) × (used ≤ length (now cm)) ⌝ }
-    ensures { λ r. ⌜ r ≡ across (now (cm .entry)) used (oppositeAt (now (co .entry)) via) ⌝ }
-{
-    let o = slot(co, via, 4294967295);
-    if face_live(cm, used, Corner(o)) {
-        return Swing::To(Corner(o));
-    }
-    if o == 4294967295 {
-        return Swing::Border;
-    }
-    Swing::Tangled
-}
-
 // The slot that the walk goes on from after it has crossed to o: before o (to the left) or after it. It is `turn_index` to the other
-// side, by the first slot of o's face, which `cross` has made already.
-fn onward(left: bool, o: Corner) -> usize
-    ensures { λ r. ⌜ r ≡ turn (not left) (o .0) ⌝ }
+// side, by the first slot of o's face, which the loop has at hand.
+fn onward(left: bool, o: usize, b: usize) -> usize
+    requires { ⌜ (b ≡ o / 3 * 3) × (o < absent) ⌝ }
+    ensures { λ r. ⌜ r ≡ turn (not left) o ⌝ }
 {
-    let i = o.0 as usize;
-    let b = i / 3 * 3;
     if left {
-        if i == b { b + 2 } else { i - 1 }
+        if o == b { b + 2 } else { o - 1 }
     } else {
-        if i == b + 2 { b } else { i + 1 }
+        if o == b + 2 { b } else { o + 1 }
     }
 }
 
@@ -154,7 +131,19 @@ fn last_crossed(left: bool, start: Corner) -> Corner
 
 // ---- the walk, counted
 
-// Counts the visits of one side after its first corner, for which there is `room`.
+// How a side ends where it crosses to no live face.
+fn end_at(o: u32) -> End
+    ensures { λ r. ⌜ r ≡ cond (eqb o absent) AtBorder AtTangle ⌝ }
+{
+    if o == 4294967295 {
+        End::AtBorder
+    } else {
+        End::AtTangle
+    }
+}
+
+// Counts the visits of one side after its first corner, for which there is `room`. It crosses from slot to slot, as the Rust does, so
+// that a step turns about one corner only, and divides by 3 once.
 fn count_side(left: bool, co: &[u32], cm: &[u32], used: u32, start: Corner, room: u32) -> Count
     requires { ⌜ (used ≤ length (now co)) × (used ≤ length (now cm)) × (faceLive (now cm) used (start .0) ≡ true) ⌝ }
     ensures { λ r. ⌜ (r .visits ≡ length (side left (now (co .entry)) (now (cm .entry)) used (start .0) room (start .0) .visits))
@@ -164,37 +153,28 @@ fn count_side(left: bool, co: &[u32], cm: &[u32], used: u32, start: Corner, room
     let mut via = start.turn_index(left);
     let mut rest = room;
     loop {
-        let s = cross(co, cm, used, via);
-        match s {
-            Swing::Border => {
-                return Count {
-                    visits: room - rest,
-                    end: End::AtBorder,
-                };
-            }
-            Swing::Tangled => {
-                return Count {
-                    visits: room - rest,
-                    end: End::AtTangle,
-                };
-            }
-            Swing::To(o) => {
-                if o.0 == last.0 {
-                    return Count {
-                        visits: room - rest,
-                        end: End::AtStart,
-                    };
-                }
-                if rest == 0 {
-                    return Count {
-                        visits: room,
-                        end: End::AtTangle,
-                    };
-                }
-                rest -= 1;
-                via = onward(left, o);
-            }
+        let o = slot(co, via, 4294967295);
+        let b = o as usize / 3 * 3;
+        if !all_live(cm, used, b) {
+            return Count {
+                visits: room - rest,
+                end: end_at(o),
+            };
         }
+        if o == last.0 {
+            return Count {
+                visits: room - rest,
+                end: End::AtStart,
+            };
+        }
+        if rest == 0 {
+            return Count {
+                visits: room,
+                end: End::AtTangle,
+            };
+        }
+        rest -= 1;
+        via = onward(left, o as usize, b);
     }
 }
 
@@ -202,7 +182,7 @@ fn count_walk(co: &[u32], cm: &[u32], used: u32, start: Corner) -> Counted
     requires { ⌜ (used ≤ length (now co)) × (used ≤ length (now cm)) ⌝ }
     ensures { λ r. ⌜ r ≡ counted (walk (now (co .entry)) (now (cm .entry)) used (start .0)) ⌝ }
 {
-    if face_live(cm, used, start) {
+    if all_live(cm, used, start.0 as usize / 3 * 3) {
         let l = count_side(true, co, cm, used, start, used - 1);
         let n = l.visits;
         let e = l.end;
@@ -254,57 +234,41 @@ fn twice(kind: Kind) -> bool
     }
 }
 
-// Writes the entries of n swings to one side, from `first` on. They have been counted: nothing is tested here.
+// Writes n entries of one side, from `first` on: those of the corners that crossing to o leads to, and so on from there. They have
+// been counted: nothing is tested here.
 fn write_side(
     kind: Kind,
     left: bool,
     cv: &[u32],
     co: &[u32],
-    start: Corner,
+    o: u32,
     list: &mut [u32],
     first: usize,
     n: usize,
 )
-    requires { ⌜ (length (now cv) < absent) × (first + n ≤ length (now list))
-        × Inside left (now co) (length (now cv)) n (start .0) ⌝ }
+    requires { ⌜ (length (now cv) < absent) × (first + n ≤ length (now list)) × Inside left (now co) (length (now cv)) n o ⌝ }
     ensures { λ r. ⌜ now (list .exit) ≡ sets (now (list .entry)) first
-        (map (entryOf kind (now (cv .entry)) left) (swings left (now (co .entry)) n (start .0))) ⌝ }
+        (map (entryOf kind (now (cv .entry)) left) (reached left (now (co .entry)) n o)) ⌝ }
 {
     let end = first + n;
-    let mut via = start.turn_index(left);
+    let mut at = o;
     let mut i = first;
     while i < end {
-        let o = Corner(slot(co, via, 4294967295));
-        list[i] = entry(kind, cv, left, o);
+        list[i] = entry(kind, cv, left, Corner(at));
         i += 1;
-        via = o.turn_index(!left);
+        at = slot(co, Corner(at).turn_index(!left), 4294967295);
     }
 }
 
-// The same, with the entry of the first corner before them where it has one on this side.
-fn write_part(
-    kind: Kind,
-    left: bool,
-    whole: bool,
-    cv: &[u32],
-    co: &[u32],
-    start: Corner,
-    list: &mut [u32],
-    first: usize,
-    n: usize,
-)
-    requires { ⌜ (length (now cv) < absent) × (first + n + cond whole 1 0 ≤ length (now list))
-        × (turn (not left) (start .0) < length (now cv)) × Inside left (now co) (length (now cv)) n (start .0) ⌝ }
-    ensures { λ r. ⌜ now (list .exit) ≡ sets (now (list .entry)) first (map (entryOf kind (now (cv .entry)) left)
-        (cond whole (start .0 ∷ swings left (now (co .entry)) n (start .0)) (swings left (now (co .entry)) n (start .0)))) ⌝ }
+// What the right side begins with: the first corner where it has an entry there too, by the slot that leads to it; else the next one.
+fn right_from(kind: Kind, co: &[u32], start: Corner) -> u32
+    requires { ⌜ (start .0 < absent) × (turn false (start .0) < length (now co)) ⌝ }
+    ensures { λ r. ⌜ r ≡ cond (twiceOf kind) (turn true (start .0)) (oppositeAt (now (co .entry)) (turn false (start .0))) ⌝ }
 {
-    if whole {
-        let o = Corner(start.turn_index(!left) as u32);
-        put(list, first, entry(kind, cv, left, o));
-        write_side(kind, left, cv, co, start, list, first + 1, n);
-    } else {
-        write_side(kind, left, cv, co, start, list, first, n);
+    if twice(kind) {
+        return start.next().0;
     }
+    slot(co, start.previous_index(), 4294967295)
 }
 
 // ---- the call
@@ -337,7 +301,7 @@ fn write_closed(
         ≡ walked kind (now (cv .entry)) (walk (now (co .entry)) (now (cm .entry)) used (start .0)) (now (list .entry)) ⌝ }
 {
     let n = l + 1;
-    write_part(kind, true, true, cv, co, start, list, 0, l as usize);
+    write_side(kind, true, cv, co, start.previous().0, list, 0, n as usize);
     Ring {
         answer: 0,
         visited: n,
@@ -372,10 +336,10 @@ fn write_open(
 {
     let seen = l + 1 + r;
     let m = seen + extra(kind);
-    write_part(kind, true, true, cv, co, start, list, 0, l as usize);
-    let both = twice(kind);
     let i = (l + 1) as usize;
-    write_part(kind, false, both, cv, co, start, list, i, r as usize);
+    let o = right_from(kind, co, start);
+    write_side(kind, true, cv, co, start.previous().0, list, 0, i);
+    write_side(kind, false, cv, co, o, list, i, m as usize - i);
     Ring {
         answer: 0,
         visited: seen,

@@ -1,14 +1,11 @@
 -- `write_side` meets its contract. Assumes nothing.
-use borrow.Author.Needs.{needs}
-use native.Mathlib.Omega.{arith}
-use mathlib.Core.Path.{refl, ap, _∙_}
-use Rattle.traversal.proofs.Steps.{turn-forth}
-use Rattle.traversal.proofs.Loops.{Writing, writing-start, writing-stop, writing-via, writing-over, writing-more}
+use Rattle.traversal.proofs.Loops.{Writing, writing-start, writing-stop, writing-here, writing-via, writing-more}
 use Rattle.traversal.specs.Lists.{entry}
-use Rattle.corner.specs.Corner.{turn}
 use Prim.Native.Nat.{_-_}
 use lib.ListN.{length}
-use mathlib.Core.Bool.{not}
+use mathlib.Core.Path.{refl}
+use borrow.Author.Needs.{needs}
+use native.Mathlib.Omega.{arith}
 use Rattle.traversal.proofs.write_side.Statement.{statement}
 use Rattle.traversal.proofs.write_side.Tie as tie
 use Rattle.traversal.proofs.write_side.Reads as reads
@@ -18,50 +15,46 @@ use Rattle.traversal.proofs.entry.Reads as entry-reads
 use Rattle.traversal.proofs.slot.Reads as slot-reads
 
 abbrev Inv-loop : tie.InvT-loop
-Inv-loop kind left cv co list₀ first n end via₀ i₀ list via i =
-    Writing (entry kind cv left) left co (length cv) list₀ list first n (turn (not left) via₀) i via
+Inv-loop kind left cv co o list₀ first n end at₀ i₀ list at i = Writing (entry kind cv left) left co (length cv) list₀ list first n o i at
 
 abbrev μ-loop : tie.MeasureT-loop
-μ-loop kind left cv co list₀ first n end via₀ i₀ list via i = end - i
+μ-loop kind left cv co o list₀ first n end at₀ i₀ list at i = end - i
 
 add-end : tie.Need-add-end Inv-loop μ-loop
 add-end c = omega (arith, c .before .before .before .pre .1)
 
-turn-index-requires : tie.Need-turn-index-requires Inv-loop μ-loop
-turn-index-requires c κs = search needs
-
 loop-holds : tie.Need-loop-holds Inv-loop μ-loop
-loop-holds c = writing-start _ _ _ _ _ _ _ 0 _ _ (c .turn-index .ensures) (c .before .before .before .before .pre .2)
-
-slot-requires : tie.Need-slot-requires Inv-loop μ-loop
-slot-requires c κs = writing-via _ _ _ _ _ _ _ _ 0 _ _ _ (c .before .loop .inv) (c .loop-test .taken)
+loop-holds c = writing-start _ _ _ _ _ _ _ _ (c .before .before .before .pre .2)
 
 entry-requires : tie.Need-entry-requires Inv-loop μ-loop
-entry-requires c κs = (rw (c .slot .ensures) (writing-over _ _ _ _ _ _ _ _ 0 _ _ _ (c .before .before .loop .inv) (c .before .loop-test .taken)), c .before .before .before .before .before .before .before .pre .0)
+entry-requires c κs = (writing-here _ _ _ _ _ _ _ _ _ _ _ (c .before .loop .inv) (c .loop-test .taken), c .before .before .before .before .before .pre .0)
 
 mul-list : tie.Need-mul-list Inv-loop μ-loop
 mul-list c = search needs
 
 slice-write-list : tie.Need-slice-write-list Inv-loop μ-loop
-slice-write-list c = omega (arith, c .before .before .before .loop .inv .size, c .before .before .before .before .before .before .before .before .pre .1, c .before .before .loop-test .taken)
+slice-write-list c = omega (arith, c .before .before .loop .inv .size, c .before .before .before .before .before .before .pre .1, c .before .loop-test .taken)
 
 add-i : tie.Need-add-i Inv-loop μ-loop
 add-i c = omega arith
 
-turn-index-requires-2 : tie.Need-turn-index-requires-2 Inv-loop μ-loop
-turn-index-requires-2 c κs = search needs
+turn-index-requires : tie.Need-turn-index-requires Inv-loop μ-loop
+turn-index-requires c κs = search needs
+
+slot-requires : tie.Need-slot-requires Inv-loop μ-loop
+slot-requires c κs = rw (c .turn-index .ensures) (writing-via _ _ _ _ _ _ _ _ _ _ _ (c .before .before .before .loop .inv) (c .before .before .loop-test .taken))
 
 loop-less : tie.Need-loop-less Inv-loop μ-loop
 loop-less c = omega arith
 
 loop-again : tie.Need-loop-again Inv-loop μ-loop
-loop-again c = writing-more _ _ _ _ _ _ _ _ 0 _ _ _ (c .before .before .before .before .loop .inv) (c .before .before .before .loop-test .taken) _ (c .before .before .slot .ensures) _ (c .before .entry .ensures) _ refl _ (c .turn-index2 .ensures)
+loop-again c = writing-more _ _ _ _ _ _ _ _ _ _ _ (c .before .before .before .before .loop .inv) (c .before .before .before .loop-test .taken) _ (c .before .before .entry .ensures) _ refl _ (c .before .turn-index .ensures) _ (c .slot .ensures)
 
 same-length : tie.Need-same-length Inv-loop μ-loop
 same-length c = c .before .loop .inv .size
 
 returns : tie.Need-returns Inv-loop μ-loop
-returns c = writing-stop _ _ _ _ _ _ _ _ _ _ _ _ (c .before .loop .inv) (c .loop-test .left) (ap (turn (not (c .before .before .before .before .before .before .args .left))) (c .before .before .turn-index .ensures) ∙ turn-forth (c .before .before .before .before .before .before .args .left) _)
+returns c = writing-stop _ _ _ _ _ _ _ _ _ _ _ (c .before .loop .inv) (c .loop-test .left)
 
 pub write-side-spec : {M : Type 1} → statement M
 write-side-spec =
@@ -70,14 +63,13 @@ write-side-spec =
     Inv-loop
     μ-loop
     add-end
-    turn-index-requires
     loop-holds
-    slot-requires
     entry-requires
     mul-list
     slice-write-list
     add-i
-    turn-index-requires-2
+    turn-index-requires
+    slot-requires
     loop-less
     loop-again
     same-length
