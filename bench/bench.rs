@@ -191,11 +191,9 @@ fn ring(name: &str, kind: usize, table: &Table, turns: usize, mut rust_ring: imp
     let mut lent = Lent::of(table);
     let mut list = Memory::of(&[0; 64]);
     let pairs = (0..turns).map(|_| {
-        let ours = nanoseconds(|| {
-            for v in 0..table.vertices {
-                black_box(lent.ring(kind, v, &mut list));
-            }
-        });
+        let ours = nanoseconds(|| lent.rings(kind, &mut list, |listed| {
+            black_box(listed);
+        }));
         (ours, nanoseconds(|| (0..table.vertices).for_each(&mut rust_ring)))
     });
     row(name, table.vertices as usize, pairs.collect());

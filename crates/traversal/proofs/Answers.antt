@@ -9,13 +9,17 @@ use native.Mathlib.Numerals.{add-one}
 use borrow.Author.Tests.{leb-true, leb-false, le-leb, lt-leb, lt-ltb, le-ltb, eq-eqb, ne-eqb}
 use lib.ListN.{length, getD, drop, set, length-map, length-append}
 use lib.Seq.{sets, sets-eq}
-use Rattle.table.specs.Slots.{markAt}
+use Rattle.table.specs.Slots.{markAt, oppositeAt}
 use lib.Dec.{leb}
-use Rattle.table.specs.Table.{Table, shaped, shapedBy, maxCorners, corner}
+use Rattle.corner.specs.Corner.{next, previous}
+use Rattle.table.specs.Table.{Table, Shaped, shaped, corner}
+use Rattle.table.proofs.Shape.{shaped-true}
 use Rattle.traversal.specs.Walk.{faceLive, Side, side, Walk, tangled, closed, open′, leftOf, rightOf, afterLeft, afterRight, walk, visits}
 use Rattle.traversal.specs.Lists.{entry, twice, entries}
-use Rattle.traversal.specs.Ring.{Outcome, outcome, refused, listed, walked, usedCorners, usedVertices, walkOf, ringOf, counted, needed, tooShort}
+use Rattle.traversal.specs.Ring.{Outcome, outcome, refused, listed, walked, usedCorners, usedVertices, begun, ringOf, counted, needed, tooShort}
+use Rattle.traversal.specs.Reached.{reached, Inside, Fit}
 use Rattle.traversal.proofs.Steps.{side-bound, face-used}
+use Rattle.traversal.proofs.Reached.{Made, side-made, whole-made}
 use Rattle.traversal.specs.declared.Kind.{Kind}
 use Rattle.traversal.specs.declared.Counted.{Counted}
 use Rattle.traversal.specs.declared.Counted.the-variants.{Tangled, Closed, Open}
@@ -65,23 +69,15 @@ module _ (opp mark : List ℕ) (used c : ℕ) where
   unfolding rightOf
   right-bound = side-bound false opp mark used c (used - 1 - length (leftOf opp mark used c .visits)) c
 
-  pub left-is : side true opp mark used c (used - 1) c ≡ leftOf opp mark used c
-  unfolding leftOf
-  left-is = refl
-
-  pub right-is : (n : ℕ) → n ≡ length (leftOf opp mark used c .visits) → side false opp mark used c (used - 1 - n) c ≡ rightOf opp mark used c
-  unfolding rightOf
-  right-is n h = rw h
-
   -- which of three a walk is
   pub data View : Type 0 where
     v-tangled : walk opp mark used c ≡ tangled → View
-    v-closed : c < used → walk opp mark used c ≡ closed c (leftOf opp mark used c .visits) → View
-    v-open : c < used → walk opp mark used c ≡ open′ c (leftOf opp mark used c .visits) (rightOf opp mark used c .visits) → View
+    v-closed : faceLive mark used c ≡ true → walk opp mark used c ≡ closed c (leftOf opp mark used c .visits) → View
+    v-open : faceLive mark used c ≡ true → walk opp mark used c ≡ open′ c (leftOf opp mark used c .visits) (rightOf opp mark used c .visits) → View
 
   view-right : faceLive mark used c ≡ true → leftOf opp mark used c .end ≡ AtBorder → (f : End) → rightOf opp mark used c .end ≡ f → View
   unfolding walk afterLeft afterRight
-  view-right l e AtBorder h = v-open (face-used mark used c l) (rw (l, e, h))
+  view-right l e AtBorder h = v-open l (rw (l, e, h))
   view-right l e AtTangle h = v-tangled (rw (l, e, h))
   view-right l e AtStart h = v-tangled (rw (l, e, h))
 
@@ -89,7 +85,7 @@ module _ (opp mark : List ℕ) (used c : ℕ) where
   unfolding walk afterLeft
   view-left l AtBorder h = view-right l h (rightOf opp mark used c .end) refl
   view-left l AtTangle h = v-tangled (rw (l, h))
-  view-left l AtStart h = v-closed (face-used mark used c l) (rw (l, h))
+  view-left l AtStart h = v-closed l (rw (l, h))
 
   view-live : (b : Bool) → faceLive mark used c ≡ b → View
   unfolding walk
@@ -105,19 +101,19 @@ module _ (opp mark : List ℕ) (used c : ℕ) where
     where
       go : View → length (visits (walk opp mark used c)) ≤ used
       go (v-tangled e) = rw e (omega arith)
-      go (v-closed w e) = rw e (omega (arith, left-bound))
+      go (v-closed w e) = rw e (omega (arith, face-used mark used c w, left-bound))
       go (v-open w e) =
-          rw e (omega (arith, left-bound, right-bound, length-append (c ∷ leftOf opp mark used c .visits) (rightOf opp mark used c .visits)))
+          rw e (omega (arith, face-used mark used c w, left-bound, right-bound, length-append (c ∷ leftOf opp mark used c .visits) (rightOf opp mark used c .visits)))
 
   -- a closed ring, and an open fan, known by their counts
   pub record IsClosed (n : ℕ) : Type 0 where
-    pub start : c < used
+    pub face : faceLive mark used c ≡ true
     pub is : walk opp mark used c ≡ closed c (leftOf opp mark used c .visits)
     pub count : n ≡ length (leftOf opp mark used c .visits)
     pub bound : n + 1 ≤ used
 
   pub record IsOpen (n m : ℕ) : Type 0 where
-    pub start : c < used
+    pub face : faceLive mark used c ≡ true
     pub is : walk opp mark used c ≡ open′ c (leftOf opp mark used c .visits) (rightOf opp mark used c .visits)
     pub count : n ≡ length (leftOf opp mark used c .visits)
     pub count′ : m ≡ length (rightOf opp mark used c .visits)
@@ -138,7 +134,7 @@ module _ (opp mark : List ℕ) (used c : ℕ) where
       go (v-tangled e) = no-way (cc (ap counted e))
       go (v-closed i e) =
           let k : n ≡ length (leftOf opp mark used c .visits) = cc (ap counted e) in
-          record { start = i; is = e; count = k; bound = omega (arith, left-bound) }
+          record { face = i; is = e; count = k; bound = omega (arith, face-used mark used c i, left-bound) }
       go (v-open i e) = no-way (cc (ap counted e))
 
   pub was-open : (n m : ℕ) → Open n m ≡ counted (walk opp mark used c) → IsOpen n m
@@ -150,7 +146,46 @@ module _ (opp mark : List ℕ) (used c : ℕ) where
       go (v-open i e) =
           let k : n ≡ length (leftOf opp mark used c .visits) = cc (ap counted e) in
           let k′ : m ≡ length (rightOf opp mark used c .visits) = cc (ap counted e) in
-          record { start = i; is = e; count = k; count′ = k′; bound = omega (arith, left-bound, right-bound) }
+          record { face = i; is = e; count = k; count′ = k′; bound = omega (arith, face-used mark used c i, left-bound, right-bound) }
+
+-- the first corner once more, or not
+length-cond : (b : Bool) (c : ℕ) (r : List ℕ) → length (cond b (c ∷ r) r) ≡ length r + cond b 1 0
+length-cond true c r = omega arith
+length-cond false c r = omega arith
+
+-- ---- the two sides by what they cross to, once they are counted
+
+module _ (opp mark : List ℕ) (used c : ℕ) (cv : List ℕ) (fit : Fit cv opp mark used) (live-face : faceLive mark used c ≡ true) where
+  -- the left side with the first corner
+  module _ (n : ℕ) (count : n ≡ length (leftOf opp mark used c .visits)) where
+    left-made : Made true opp (length cv) (previous c) (c ∷ leftOf opp mark used c .visits)
+    unfolding leftOf
+    left-made = whole-made true opp mark used (length cv) c (fit .opposites) (fit .vertices) (used - 1) c live-face
+
+    pub left-reached : reached true opp (n + 1) (previous c) ≡ c ∷ leftOf opp mark used c .visits
+    left-reached = rw (count, add-one) (sym (left-made .are))
+
+    pub left-inside : Inside true opp (length cv) (n + 1) (previous c)
+    left-inside = rw (count, add-one) (left-made .inside)
+
+  -- the right side, with the first corner where b says so
+  module _ (b : Bool) (n : ℕ) (count : n ≡ length (rightOf opp mark used c .visits)) where
+    right-made : (b : Bool) → Made false opp (length cv) (cond b (next c) (oppositeAt opp (previous c))) (cond b (c ∷ rightOf opp mark used c .visits) (rightOf opp mark used c .visits))
+    unfolding rightOf
+    right-made true =
+        whole-made false opp mark used (length cv) c (fit .opposites) (fit .vertices) (used - 1 - length (leftOf opp mark used c .visits)) c live-face
+    right-made false =
+        side-made false opp mark used (length cv) c (fit .opposites) (fit .vertices) (used - 1 - length (leftOf opp mark used c .visits)) c
+
+    size : n + cond b 1 0 ≡ length (cond b (c ∷ rightOf opp mark used c .visits) (rightOf opp mark used c .visits))
+    size = omega (arith, count, length-cond b c (rightOf opp mark used c .visits))
+
+    module _ (m o : ℕ) (is-m : m ≡ n + cond b 1 0) (is-o : o ≡ cond b (next c) (oppositeAt opp (previous c))) where
+      pub right-reached : reached false opp m o ≡ cond b (c ∷ rightOf opp mark used c .visits) (rightOf opp mark used c .visits)
+      right-reached = rw (is-m, size, is-o) (sym (right-made b .are))
+
+      pub right-inside : Inside false opp (length cv) m o
+      right-inside = rw (is-m, size, is-o) (right-made b .inside)
 
 -- ---- what was written
 
@@ -161,30 +196,11 @@ sets-append l i (x ∷ xs) ys = sets-append (set l i x) (suc i) xs ys ∙ rw (ad
 sets-front : (l es : List ℕ) → length es ≤ length l → sets l 0 es ≡ es ++ drop (length es) l
 sets-front l es h = sets-eq es l 0 (rw zero-add h) ∙ rw zero-add
 
--- one part, with the first corner's entry or without
-module _ (f : ℕ → ℕ) (last l : List ℕ) (i c : ℕ) (s : List ℕ) (b : Bool) where
-  pub part-whole : (mid : List ℕ) (v : ℕ) → v ≡ f c → mid ≡ set l i v → last ≡ sets mid (i + 1) (map f s) → b ≡ true
-      → last ≡ sets l i (map f (cond b (c ∷ s) s))
-  part-whole mid v e m w h = w ∙ rw (h, m, e, add-one)
-
-  pub part-rest : last ≡ sets l i (map f s) → b ≡ false → last ≡ sets l i (map f (cond b (c ∷ s) s))
-  part-rest w h = w ∙ rw h
-
 -- ---- an answer as an outcome
 
 outcome-is : (r : Ring) (l l′ : List ℕ) (a n m : ℕ) → r .answer ≡ a → r .visited ≡ n → r .written ≡ m → l ≡ l′
     → outcome r l ≡ record { answer = a; visited = n; written = m; list = l′ }
 outcome-is r l l′ a n m p q s e = λ i. record { answer = p i; visited = q i; written = s i; list = e i }
-
--- an outcome determines what was handed back and what is left
-pub outcome-settles : (r r′ : Ring) (l l′ : List ℕ) → outcome r l ≡ outcome r′ l′ → (r ≡ r′) × (l ≡ l′)
-outcome-settles r r′ l l′ e = (
-  ap (λ (o : Outcome). ring-of o) e,
-  ap (λ (o : Outcome). o .list) e,
-)
-  where
-    ring-of : Outcome → Ring
-    ring-of o = record { answer = o .answer; visited = o .visited; written = o .written }
 
 abbrev pub Refused : Ring → ℕ → Type 0
 Refused r a = (r .answer ≡ a) × (r .visited ≡ 0) × (r .written ≡ 0)
@@ -201,10 +217,6 @@ module _ (r : Ring) (n : ℕ) (es list : List ℕ) where
   listed-short q h = rw (lt-leb _ _ h) (refusal r list 16 q)
 
 -- how many entries a walk's list has
-length-cond : (b : Bool) (c : ℕ) (r : List ℕ) → length (cond b (c ∷ r) r) ≡ length r + cond b 1 0
-length-cond true c r = omega arith
-length-cond false c r = omega arith
-
 pub one-at-most : (b : Bool) → cond b 1 0 ≤ 1
 one-at-most true = omega arith
 one-at-most false = omega arith
@@ -246,15 +258,16 @@ module _ (kind : Kind) (cv opp mark : List ℕ) (used c : ℕ) (list : List ℕ)
         let size = closed-size kind cv c lv in
         rw (k .is) (listed-short r (length (visits (closed c lv))) (entries kind cv (closed c lv)) list h (omega (arith, k .count)))
 
-    pub closed-done : (last : List ℕ) → r .answer ≡ 0 → r .visited ≡ n + 1 → r .written ≡ n + 1 → n + 1 ≤ length list
-        → last ≡ sets list 0 (map (entry kind cv true) (c ∷ side true opp mark used c (used - 1) c .visits))
+    pub closed-done : Fit cv opp mark used → (last : List ℕ) → r .answer ≡ 0 → r .visited ≡ n + 1 → r .written ≡ n + 1 → n + 1 ≤ length list
+        → last ≡ sets list 0 (map (entry kind cv true) (reached true opp (n + 1) (previous c)))
         → outcome r last ≡ walked kind cv (walk opp mark used c) list
-    unfolding lv leftOf
-    closed-done last a v w l e =
+    unfolding lv
+    closed-done fit last a v w l e =
         let size = closed-size kind cv c lv in
         rw (k .is)
         (listed-done r (length (visits (closed c lv))) (entries kind cv (closed c lv)) list last a
-        (omega (arith, k .count)) (omega (arith, k .count)) (omega (arith, k .count)) e)
+        (omega (arith, k .count)) (omega (arith, k .count)) (omega (arith, k .count))
+        (e ∙ rw (left-reached opp mark used c cv fit (k .face) n (k .count))))
 
   module _ (n m x : ℕ) (k : IsOpen opp mark used c n m) (extra : x ≡ cond (twice kind) 1 0) (r : Ring) where
     lv′ : List ℕ
@@ -269,20 +282,20 @@ module _ (kind : Kind) (cv opp mark : List ℕ) (used c : ℕ) (list : List ℕ)
         let size = open-size kind cv c lv′ rv in
         rw (k .is) (listed-short r (length (visits (open′ c lv′ rv))) (entries kind cv (open′ c lv′ rv)) list h (omega (arith, k .count, k .count′)))
 
-    pub open-done : (b : Bool) (i : ℕ) (mid last : List ℕ) → b ≡ twice kind → r .answer ≡ 0 → r .visited ≡ n + 1 + m → r .written ≡ n + 1 + m + x
-        → n + 1 + m + x ≤ length list → i ≡ n + 1
-        → mid ≡ sets list 0 (map (entry kind cv true) (c ∷ side true opp mark used c (used - 1) c .visits))
-        → last ≡ sets mid i (map (entry kind cv false)
-        (cond b (c ∷ side false opp mark used c (used - 1 - n) c .visits) (side false opp mark used c (used - 1 - n) c .visits)))
+    pub open-done : Fit cv opp mark used → (i o rest : ℕ) (mid last : List ℕ)
+        → r .answer ≡ 0 → r .visited ≡ n + 1 + m → r .written ≡ n + 1 + m + x → n + 1 + m + x ≤ length list → i ≡ n + 1
+        → o ≡ cond (twice kind) (next c) (oppositeAt opp (previous c)) → rest ≡ m + x
+        → mid ≡ sets list 0 (map (entry kind cv true) (reached true opp i (previous c)))
+        → last ≡ sets mid i (map (entry kind cv false) (reached false opp rest o))
         → outcome r last ≡ walked kind cv (walk opp mark used c) list
     unfolding lv′ rv
-    open-done b i mid last t a v w l at e e′ =
+    open-done fit i o rest mid last a v w l at from count e e′ =
         let size = open-size kind cv c lv′ rv in
         let els : List ℕ = map (entry kind cv true) (c ∷ lv′) in
         let ers : List ℕ = map (entry kind cv false) (cond (twice kind) (c ∷ rv) rv) in
         let here : i ≡ 0 + length els = omega (arith, k .count, length-map (c ∷ lv′) (entry kind cv true)) in
-        let one : mid ≡ sets list 0 els = e ∙ rw (left-is opp mark used c) in
-        let two : last ≡ sets mid i ers = e′ ∙ rw (right-is opp mark used c n (k .count), t) in
+        let one : mid ≡ sets list 0 els = e ∙ rw (at, left-reached opp mark used c cv fit (k .face) n (k .count)) in
+        let two : last ≡ sets mid i ers = e′ ∙ rw (right-reached opp mark used c cv fit (k .face) (twice kind) m (k .count′) rest o (count ∙ rw extra) from) in
         let all : last ≡ sets list 0 (els ++ ers) =
         two ∙ ap (λ (l′ : List ℕ). sets l′ i ers) one ∙ ap (λ (j : ℕ). sets (sets list 0 els) j ers) here ∙ sym (sets-append list 0 els ers) in
         rw (k .is)
@@ -302,32 +315,42 @@ module _ (kind : Kind) (cv opp mark : List ℕ) (used c : ℕ) (list : List ℕ)
 
 -- ---- the order of the answers 1, 9, 10 and the rest
 
-module _ (kind : Kind) (v : ℕ) (t : Table) (list : List ℕ) (r : Ring) (b : Bool) (is : b ≡ shaped t) where
-  pub ring-1 : Refused r 1 → b ≡ false → outcome r list ≡ ringOf kind v t list
+module _ (v : ℕ) (t : Table) (b : Bool) (is : b ≡ shaped t) where
+  pub start-1 : b ≡ false → (kind : Kind) (list : List ℕ) → ringOf kind v t list ≡ refused 1 list
   unfolding ringOf
-  ring-1 h off = rw (← is, off) (refusal r list 1 h)
+  start-1 off kind list = rw (← is, off)
 
   module _ (on : b ≡ true) (known : ℕ) (k : known ≡ usedVertices t) where
-    pub ring-9 : Refused r 9 → known ≤ v → outcome r list ≡ ringOf kind v t list
+    pub start-9 : known ≤ v → (kind : Kind) (list : List ℕ) → ringOf kind v t list ≡ refused 9 list
     unfolding ringOf
-    ring-9 h l = rw (← is, on, ← k, le-ltb _ _ l) (refusal r list 9 h)
+    start-9 l kind list = rw (← is, on, ← k, le-ltb _ _ l)
 
     module _ (l : v < known) (m : ℕ) (mark : m ≡ markAt (t .vertexMark) v) where
-      pub ring-10 : Refused r 10 → (m ≡ 0 → ⊥) → outcome r list ≡ ringOf kind v t list
+      pub start-10 : (m ≡ 0 → ⊥) → (kind : Kind) (list : List ℕ) → ringOf kind v t list ≡ refused 10 list
       unfolding ringOf
-      ring-10 h g = rw (← is, on, ← k, lt-ltb _ _ l, ← mark, ne-eqb _ _ g) (refusal r list 10 h)
+      start-10 g kind list = rw (← is, on, ← k, lt-ltb _ _ l, ← mark, ne-eqb _ _ g)
 
-      pub ring-go : m ≡ 0 → (used : ℕ) → used ≡ usedCorners t → (c : ℕ) → c ≡ corner t v → (last : List ℕ)
-          → outcome r last ≡ walked kind (t .cornerVertex) (walk (t .cornerOpposite) (t .cornerMark) used c) list
-          → outcome r last ≡ ringOf kind v t list
+      pub start-0 : m ≡ 0 → (used : ℕ) → used ≡ usedCorners t → (c : ℕ) → c ≡ corner t v → (kind : Kind) (list : List ℕ)
+          → ringOf kind v t list ≡ walked kind (t .cornerVertex) (walk (t .cornerOpposite) (t .cornerMark) used c) list
       unfolding ringOf
-      ring-go g used u c a last e = rw (← is, on, ← k, lt-ltb _ _ l, ← mark, eq-eqb _ _ g, ← u, ← a) e
+      start-0 g used u c a kind list = rw (← is, on, ← k, lt-ltb _ _ l, ← mark, eq-eqb _ _ g, ← u, ← a)
 
--- a shaped table has few corners
-pub shaped-most : (cv co cm vc vm vp : ℕ) (b : Bool) → b ≡ shapedBy cv co cm vc vm vp → b ≡ true → cm ≤ maxCorners
-unfolding shapedBy
-shaped-most cv co cm vc vm vp b is on = go (leb cm maxCorners) _ refl (sym is ∙ on)
-  where
-    go : (x y : Bool) → leb cm maxCorners ≡ x → x && y ≡ true → cm ≤ maxCorners
-    go true y e h = leb-true _ _ e
-    go false y e h = absurd (false≢true h)
+-- the used corners of a shaped table have slots in all its lists
+pub shaped-fit : (t : Table) (b : Bool) → b ≡ shaped t → b ≡ true → (used : ℕ) → used ≡ usedCorners t
+    → Fit (t .cornerVertex) (t .cornerOpposite) (t .cornerMark) used
+shaped-fit t b is on used u =
+    let s : Shaped t = shaped-true t (sym is ∙ on) in
+    record {
+      below = omega (arith, s .cornerMost, s .cornerVertexRoom);
+      vertices = omega (arith, s .cornerVertexRoom);
+      opposites = omega (arith, s .cornerOppositeRoom);
+      marks = omega arith;
+    }
+
+-- what the walk's call or a refusal makes of it
+module _ (kind : Kind) (cv co cm : List ℕ) (answer used c : ℕ) (list : List ℕ) (whole : Outcome) (is : whole ≡ begun kind cv co cm answer used c list) where
+  pub begun-walked : answer ≡ 0 → (x : Outcome) → x ≡ walked kind cv (walk co cm used c) list → x ≡ whole
+  begun-walked h x e = e ∙ sym (is ∙ rw (eq-eqb answer 0 h))
+
+  pub begun-refused : (answer ≡ 0 → ⊥) → (r : Ring) → Refused r answer → outcome r list ≡ whole
+  begun-refused h r q = refusal r list answer q ∙ sym (is ∙ rw (ne-eqb answer 0 h))

@@ -2,11 +2,15 @@
 use Prim.Native.Nat.{ℕ, suc, _+_, _-_, _<_, _≤_}
 use mathlib.Core.Path.{_≡_, refl, sym, ap, _∙_}
 use mathlib.Core.List.{List, [], _∷_, map}
+use mathlib.Core.Bool.{Bool, not}
 use native.Mathlib.Omega.{arith}
 use native.Mathlib.Numerals.{add-one}
 use lib.ListN.{length, set, length-set}
 use lib.Seq.{sets}
+use Rattle.corner.specs.Corner.{turn}
+use Rattle.table.specs.Slots.{oppositeAt}
 use Rattle.traversal.specs.Walk.{Side, stop, more}
+use Rattle.traversal.specs.Reached.{reached, Inside}
 use Rattle.traversal.specs.declared.End.{End}
 
 -- counting, with `rest` of `room` visits left
@@ -34,25 +38,52 @@ module _ (whole here : Side) (room rest : ℕ) (k : Counting whole here room res
       let l : length (here .visits) ≡ length (there .visits) + 1 = ap (λ (s : Side). length (s .visits)) h ∙ omega arith in
       record { le = omega (arith, k .le); count = omega (arith, k .count, k .le); ends = k .ends ∙ ap (λ (s : Side). s .end) h }
 
--- writing: the list l has the entries up to i, and those of the whole side go to l₀ from `first` on
-pub record Writing (f : ℕ → ℕ) (whole here : Side) (l₀ l : List ℕ) (first room rest i : ℕ) : Type 0 where
+-- writing n entries to l₀ from `first` on, from the crossing to o₀: l has those up to i, and the next crossing is to o
+pub record Writing (f : ℕ → ℕ) (left : Bool) (opp : List ℕ) (room : ℕ) (l₀ l : List ℕ) (first n o₀ i o : ℕ) : Type 0 where
   pub size : length l ≡ length l₀
-  pub place : i + rest ≡ first + room
-  pub list : sets l i (map f (here .visits)) ≡ sets l₀ first (map f (whole .visits))
+  pub place : i ≤ first + n
+  pub list : sets l i (map f (reached left opp (first + n - i) o)) ≡ sets l₀ first (map f (reached left opp n o₀))
+  pub inside : Inside left opp room (first + n - i) o
 
-pub writing-start : (f : ℕ → ℕ) (s h : Side) (l : List ℕ) (first room : ℕ) → h ≡ s → Writing f s h l l first room room first
-writing-start f s h l first room e =
-    record { size = refl; place = refl; list = ap (λ (x : Side). sets l first (map f (x .visits))) e }
+module _ (f : ℕ → ℕ) (left : Bool) (opp : List ℕ) (room : ℕ) (l₀ : List ℕ) (first n o₀ : ℕ) where
+  pub writing-start : Inside left opp room n o₀ → Writing f left opp room l₀ l₀ first n o₀ first o₀
+  writing-start h =
+      let all : first + n - first ≡ n = omega arith in
+      record { size = refl; place = omega arith; list = rw all; inside = rw all h }
 
-module _ (f : ℕ → ℕ) (whole here : Side) (l₀ l : List ℕ) (first room rest i : ℕ) (k : Writing f whole here l₀ l first room rest i) where
-  pub writing-stop : (e : End) → here ≡ stop e → l ≡ sets l₀ first (map f (whole .visits))
-  writing-stop e h = sym (ap (λ (s : Side). sets l i (map f (s .visits))) h) ∙ k .list
+  module _ (l : List ℕ) (i o : ℕ) (k : Writing f left opp room l₀ l first n o₀ i o) where
+    pub writing-stop : first + n ≤ i → l ≡ sets l₀ first (map f (reached left opp n o₀))
+    unfolding reached
+    writing-stop h =
+        let none : first + n - i ≡ 0 = omega arith in
+        let all : sets l i (map f (reached left opp 0 o)) ≡ sets l₀ first (map f (reached left opp n o₀)) = rw none at (k .list) in
+        all
 
-  pub writing-more : (there : Side) (d v : ℕ) → here ≡ more d there → v ≡ f d → (rest ≡ 0 → ⊥)
-      → (l′ : List ℕ) → l′ ≡ set l i v → Writing f whole there l₀ l′ first room (rest - 1) (i + 1)
-  writing-more there d v h e p l′ is =
-      record {
-        size = ap length is ∙ length-set l i v ∙ k .size;
-        place = omega (arith, k .place);
-        list = rw (is, e, add-one) (sym (ap (λ (s : Side). sets l i (map f (s .visits))) h) ∙ k .list);
-      }
+    module _ (more : i < first + n) where
+      one : first + n - i ≡ suc (first + n - (i + 1))
+      one = omega arith
+
+      ahead : Inside left opp room (suc (first + n - (i + 1))) o
+      ahead = rw one at (k .inside)
+
+      pub writing-here : o < room
+      unfolding Inside
+      writing-here = ahead .0
+
+      pub writing-via : turn (not left) o < length opp
+      unfolding Inside
+      writing-via = ahead .1
+
+      pub writing-more : (v : ℕ) → v ≡ f (turn left o) → (l′ : List ℕ) → l′ ≡ set l i v
+          → (via : ℕ) → via ≡ turn (not left) o → (o′ : ℕ) → o′ ≡ oppositeAt opp via → Writing f left opp room l₀ l′ first n o₀ (i + 1) o′
+      unfolding reached Inside
+      writing-more v at-v l′ at-l via at-via o′ at-o =
+          let there : o′ ≡ oppositeAt opp (turn (not left) o) = at-o ∙ ap (oppositeAt opp) at-via in
+          let before : sets l i (map f (reached left opp (suc (first + n - (i + 1))) o)) ≡ sets l₀ first (map f (reached left opp n o₀)) =
+          rw one at (k .list) in
+          record {
+            size = ap length at-l ∙ length-set l i v ∙ k .size;
+            place = omega arith;
+            list = rw (at-l, at-v, there, add-one) (rw add-one at before);
+            inside = rw there (ahead .2);
+          }

@@ -54,8 +54,8 @@ module _ (co cm : List ℕ) (n : ℕ) where
     stops-start : (d room : ℕ) → ¬ stuck d → faceLive cm n (oppositeAt co (turn left d)) ≡ true → left ≡ true → onward d ≡ c
         → side left co cm n c room d ≡ stop AtStart
     stops-start d room s f l e =
-        side-closed left co cm n c d (swing left co cm n d) refl (record { 0 = onward d })
-        (sym (swing-to left co cm n d (oppositeAt co (turn left d)) refl s true (sym f) (record { 0 = onward d }) refl refl))
+        side-closed left co cm n c d (swing left co cm n d) refl (onward d)
+        (sym (swing-to left co cm n d (oppositeAt co (turn left d)) refl s true (sym f) refl))
         true (sym (both left (eqb (onward d) c) l (eq-eqb _ _ e))) room refl
       where
         both : (a b : Bool) → a ≡ true → b ≡ true → a && b ≡ true
@@ -66,8 +66,8 @@ module _ (co cm : List ℕ) (n : ℕ) where
     goes-on d room s f e =
         let z : suc room - 1 ≡ room = omega arith in
         rw z at
-        (side-more left co cm n c d (swing left co cm n d) refl (record { 0 = onward d })
-        (sym (swing-to left co cm n d (oppositeAt co (turn left d)) refl s true (sym f) (record { 0 = onward d }) refl refl))
+        (side-more left co cm n c d (swing left co cm n d) refl (onward d)
+        (sym (swing-to left co cm n d (oppositeAt co (turn left d)) refl s true (sym f) refl))
         false (sym (neither left (eqb (onward d) c) (ne-eqb _ _ e))) (suc room) refl (λ y. absurd (omega arith)))
       where
         neither : (a b : Bool) → b ≡ false → a && b ≡ false

@@ -1,42 +1,83 @@
 -- A swing, and a turn of a walk, by what was found. Assumes nothing.
-use Prim.Native.Nat.{ℕ, zero, suc, _+_, _-_, _<_, _≤_, suc-le-suc}
+use Prim.Native.Nat.{ℕ, zero, suc, _+_, _-_, _*_, _/_, _<_, _≤_, suc-le-suc}
 use mathlib.Core.Path.{_≡_, refl, sym, ap, _∙_}
 use mathlib.Core.Logic.{_≢_}
 use mathlib.Core.List.{List, [], _∷_}
 use mathlib.Core.Bool.{Bool, true, false, not, cond, _&&_, false≢true}
 use native.Mathlib.Nat.{suc-sub-suc, sub-zero}
 use native.Mathlib.Omega.{arith}
-use borrow.Author.Tests.{eq-eqb, ne-eqb, eqb-true}
+use native.Mathlib.Decide.{ℕ-discrete}
+use borrow.Author.Tests.{eq-eqb, ne-eqb, lt-ltb}
 use lib.ListN.{length}
 use lib.Dec.{eqb}
 use Rattle.corner.specs.Corner.{absent, next, previous, turn}
-use Rattle.corner.specs.declared.Corner.{Corner}
-use Rattle.corner.proofs.Turns.{turn-below, next-next, next-previous, previous-next, previous-previous}
+use Rattle.corner.proofs.Turns.{Third, first, second, last, third, next-first, next-second, next-last, previous-first, previous-second, previous-last}
+use Rattle.corner.proofs.Turns.{next-previous, previous-next, next-face, turn-back, not-turn-twice}
 use Rattle.table.specs.Slots.{oppositeAt, markAt}
 use Rattle.table.specs.Table.{live}
-use Rattle.table.proofs.Lives.{live-true, true-live}
-use Rattle.traversal.specs.Walk.{faceLive, onto, across, swing, Side, closes, stop, more, onSwing, side}
-use Rattle.traversal.specs.declared.Swing.{Swing}
-use Rattle.traversal.specs.declared.Swing.the-variants.{Border, Tangled, To}
+use Rattle.table.proofs.Lives.{live-true, not-live}
+use Rattle.traversal.specs.Walk.{unmarked, faceLive, lastCrossed, Swing, border, tangle, to, swing, Side, closes, stop, more, onSwing, side}
 use Rattle.traversal.specs.declared.End.{End}
 use Rattle.traversal.specs.declared.End.the-variants.{AtBorder, AtTangle, AtStart}
 
 -- ---- a live face
 
+module _ (mark : List ℕ) (b x y z : ℕ) (is : x ≡ markAt mark b) (is′ : y ≡ markAt mark (b + 1)) (is″ : z ≡ markAt mark (b + 2)) where
+  pub unmarked-first : (x ≡ 0 → ⊥) → false ≡ unmarked mark b
+  unfolding unmarked
+  unmarked-first h = rw (← is, ne-eqb x 0 h)
+
+  pub unmarked-second : x ≡ 0 → (y ≡ 0 → ⊥) → false ≡ unmarked mark b
+  unfolding unmarked
+  unmarked-second h k = rw (← is, eq-eqb x 0 h, ← is′, ne-eqb y 0 k)
+
+  pub unmarked-third : x ≡ 0 → y ≡ 0 → (t : Bool) → t ≡ eqb z 0 → t ≡ unmarked mark b
+  unfolding unmarked
+  unmarked-third h k t e = rw (← is, eq-eqb x 0 h, ← is′, eq-eqb y 0 k, ← is″) e
+
 module _ (mark : List ℕ) (used c : ℕ) where
-  module _ (a : Bool) (is : a ≡ live mark used c) where
-    pub face-first : a ≡ false → false ≡ faceLive mark used c
-    unfolding faceLive
-    face-first h = rw (← is, h)
+  -- whichever corner of its face c is, the same three are asked for
+  turned-1 : (x y z : Bool) → y && (z && x) ≡ x && (y && z)
+  turned-1 true true true = refl
+  turned-1 true true false = refl
+  turned-1 true false z = refl
+  turned-1 false true true = refl
+  turned-1 false true false = refl
+  turned-1 false false z = refl
 
-    module _ (on : a ≡ true) (b : Bool) (is′ : b ≡ live mark used (next c)) where
-      pub face-second : b ≡ false → false ≡ faceLive mark used c
-      unfolding faceLive
-      face-second h = rw (← is, on, ← is′, h)
+  turned-2 : (x y z : Bool) → z && (x && y) ≡ x && (y && z)
+  turned-2 x y z = sym (turned-1 z x y)
 
-      pub face-third : b ≡ true → (d : Bool) → d ≡ live mark used (previous c) → d ≡ faceLive mark used c
-      unfolding faceLive
-      face-third h d e = rw (← is, on, ← is′, h) e
+  face-three : (b : ℕ) → b ≡ c / 3 * 3 → faceLive mark used c ≡ live mark used b && (live mark used (b + 1) && live mark used (b + 2))
+  unfolding faceLive
+  face-three b e = go (third c)
+    where
+      at : (x y z : ℕ) → x ≡ b → y ≡ b + 1 → z ≡ b + 2
+          → live mark used x && (live mark used y && live mark used z) ≡ live mark used b && (live mark used (b + 1) && live mark used (b + 2))
+      at x y z p q r = rw (p, q, r)
+
+      go : Third c → live mark used c && (live mark used (next c) && live mark used (previous c))
+          ≡ live mark used b && (live mark used (b + 1) && live mark used (b + 2))
+      go (first h) = at c (next c) (previous c) (omega arith) (omega (arith, next-first c h)) (omega (arith, previous-first c h))
+      go (second h) =
+          turned-1 (live mark used (previous c)) (live mark used c) (live mark used (next c))
+          ∙ at (previous c) c (next c) (omega (arith, previous-second c h)) (omega arith) (omega (arith, next-second c h))
+      go (last h) =
+          turned-2 (live mark used (next c)) (live mark used (previous c)) (live mark used c)
+          ∙ at (next c) (previous c) c (omega (arith, next-last c h)) (omega (arith, previous-last c h)) (omega arith)
+
+  pub face-marks : (b : ℕ) → b ≡ c / 3 * 3 → b + 2 < used → (t : Bool) → t ≡ unmarked mark b → t ≡ faceLive mark used c
+  unfolding unmarked live
+  face-marks b e h t is =
+      is ∙ sym (face-three b e ∙ rw (lt-ltb b used (omega arith), lt-ltb (b + 1) used (omega arith), lt-ltb (b + 2) used h))
+
+  pub face-out : (b : ℕ) → b ≡ c / 3 * 3 → used ≤ b + 2 → false ≡ faceLive mark used c
+  face-out b e h = sym (face-three b e ∙ rw (← not-live mark used (b + 2) h) (none (live mark used b) (live mark used (b + 1))))
+    where
+      none : (x y : Bool) → x && (y && false) ≡ false
+      none true true = refl
+      none true false = refl
+      none false y = refl
 
   -- its three corners are live
   pub face-lives : faceLive mark used c ≡ true
@@ -50,6 +91,11 @@ module _ (mark : List ℕ) (used c : ℕ) where
       go true false d h = absurd (false≢true h)
       go false b d h = absurd (false≢true h)
 
+  -- a corner beside it is used
+  pub face-turn : (left : Bool) → faceLive mark used c ≡ true → turn left c < used
+  face-turn true e = live-true mark used (next c) (face-lives e .1) .0
+  face-turn false e = live-true mark used (previous c) (face-lives e .2) .0
+
   pub lives-face : live mark used c ≡ true → live mark used (next c) ≡ true → live mark used (previous c) ≡ true → faceLive mark used c ≡ true
   unfolding faceLive
   lives-face a b d = rw (a, b, d)
@@ -61,82 +107,74 @@ module _ (mark : List ℕ) (used c : ℕ) where
 
 module _ (left : Bool) (opp mark : List ℕ) (used : ℕ) where
   module _ (c o : ℕ) (at : o ≡ oppositeAt opp (turn left c)) where
-    pub swing-border : o ≡ absent → Border ≡ swing left opp mark used c
+    pub swing-border : o ≡ absent → border ≡ swing left opp mark used c
     unfolding swing
     swing-border h = rw (← at, eq-eqb _ _ h)
 
     module _ (there : o ≢ absent) (b : Bool) (is : b ≡ faceLive mark used o) where
-      pub swing-tangled : b ≡ false → Tangled ≡ swing left opp mark used c
+      pub swing-tangle : b ≡ false → tangle ≡ swing left opp mark used c
       unfolding swing
-      swing-tangled h = rw (← at, ne-eqb _ _ there, ← is, h)
+      swing-tangle h = rw (← at, ne-eqb _ _ there, ← is, h)
 
-      pub swing-to : (d : Corner) → d .0 ≡ turn left o → b ≡ true → To d ≡ swing left opp mark used c
+      pub swing-to : b ≡ true → to (turn left o) ≡ swing left opp mark used c
       unfolding swing
-      swing-to d e h = rw (← at, ne-eqb _ _ there, ← is, h) (ap (λ (n : ℕ). To (record { 0 = n })) e)
+      swing-to h = rw (← at, ne-eqb _ _ there, ← is, h)
 
   -- what a swing to d found: an opposite in a live face
   pub record Landed (c d : ℕ) : Type 0 where
-    pub there : oppositeAt opp (turn left c) ≢ absent
     pub face : faceLive mark used (oppositeAt opp (turn left c)) ≡ true
     pub at : d ≡ turn left (oppositeAt opp (turn left c))
 
   at-of : Swing → ℕ
-  at-of Border = 0
-  at-of Tangled = 0
-  at-of (To d) = d .0
+  at-of border = 0
+  at-of tangle = 0
+  at-of (to d) = d
 
-  pub swing-landed : (c : ℕ) (d : Corner) → swing left opp mark used c ≡ To d → Landed c (d .0)
+  pub swing-landed : (c d : ℕ) → swing left opp mark used c ≡ to d → Landed c d
   unfolding swing at-of
-  swing-landed c d e = go (eqb (oppositeAt opp (turn left c)) absent) (faceLive mark used (oppositeAt opp (turn left c))) refl refl e
+  swing-landed c d e = go (eqb (oppositeAt opp (turn left c)) absent) (faceLive mark used (oppositeAt opp (turn left c))) refl e
     where
-      go : (a b : Bool) → eqb (oppositeAt opp (turn left c)) absent ≡ a → faceLive mark used (oppositeAt opp (turn left c)) ≡ b
-          → cond a Border (cond b (To (record { 0 = turn left (oppositeAt opp (turn left c)) })) Tangled) ≡ To d → Landed c (d .0)
-      go true b p q z = let y : _≡_ {A = ℕ} 0 1 = cc in absurd (omega arith)
-      go false false p q z = let y : _≡_ {A = ℕ} 0 1 = cc in absurd (omega arith)
-      go false true p q z =
-          record { there = λ h. absurd (false≢true (sym p ∙ eq-eqb _ _ h)); face = q; at = sym (ap at-of z) }
-
-  -- it is no absent corner (with `used` a u32)
-  pub to-below : used ≤ absent → (c : ℕ) (r : Swing) → r ≡ swing left opp mark used c → (d : Corner) → r ≡ To d → d .0 < absent
-  to-below u c r is d to =
-      let k : Landed c (d .0) = swing-landed c d (sym is ∙ to) in
-      rw (k .at) (turn-below left (oppositeAt opp (turn left c)) absent refl (omega (arith, face-used mark used _ (k .face))))
+      go : (a b : Bool) → faceLive mark used (oppositeAt opp (turn left c)) ≡ b
+          → cond a border (cond b (to (turn left (oppositeAt opp (turn left c)))) tangle) ≡ to d → Landed c d
+      go true b q z = let y : _≡_ {A = ℕ} 0 1 = cc in absurd (omega arith)
+      go false false q z = let y : _≡_ {A = ℕ} 0 1 = cc in absurd (omega arith)
+      go false true q z = record { face = q; at = sym (ap at-of z) }
 
   -- ---- a turn of the walk, by what the swing from c was found to be
 
   module _ (c₀ c : ℕ) (r : Swing) (is : r ≡ swing left opp mark used c) where
-    pub side-border : (room : ℕ) → r ≡ Border → side left opp mark used c₀ room c ≡ stop AtBorder
+    pub side-border : (room : ℕ) → r ≡ border → side left opp mark used c₀ room c ≡ stop AtBorder
     unfolding side
     side-border zero h = rw (← is, h)
     side-border (suc room) h = rw (← is, h)
 
-    pub side-tangled : (room : ℕ) → r ≡ Tangled → side left opp mark used c₀ room c ≡ stop AtTangle
+    pub side-tangle : (room : ℕ) → r ≡ tangle → side left opp mark used c₀ room c ≡ stop AtTangle
     unfolding side
-    side-tangled zero h = rw (← is, h)
-    side-tangled (suc room) h = rw (← is, h)
+    side-tangle zero h = rw (← is, h)
+    side-tangle (suc room) h = rw (← is, h)
 
-    module _ (d : Corner) (to : r ≡ To d) (t : Bool) (at : t ≡ closes left c₀ (d .0)) where
+    module _ (d : ℕ) (lands : r ≡ to d) (t : Bool) (at : t ≡ closes left c₀ d) where
       pub side-closed : (room : ℕ) → t ≡ true → side left opp mark used c₀ room c ≡ stop AtStart
       unfolding side
-      side-closed zero h = rw (← is, to, ← at, h)
-      side-closed (suc room) h = rw (← is, to, ← at, h)
+      side-closed zero h = rw (← is, lands, ← at, h)
+      side-closed (suc room) h = rw (← is, lands, ← at, h)
 
       pub side-out : (room : ℕ) → t ≡ false → room ≡ 0 → side left opp mark used c₀ room c ≡ stop AtTangle
       unfolding side
-      side-out room h z = rw (z, ← is, to, ← at, h)
+      side-out room h z = rw (z, ← is, lands, ← at, h)
 
       pub side-more : (room : ℕ) → t ≡ false → (room ≡ 0 → ⊥)
-          → side left opp mark used c₀ room c ≡ more (d .0) (side left opp mark used c₀ (room - 1) (d .0))
+          → side left opp mark used c₀ room c ≡ more d (side left opp mark used c₀ (room - 1) d)
       unfolding side
       side-more zero h p = absurd (p refl)
-      side-more (suc room) h p = rw (← is, to, ← at, h, suc-sub-suc, sub-zero)
+      side-more (suc room) h p = rw (← is, lands, ← at, h, suc-sub-suc, sub-zero)
 
   -- a side makes no more visits than it has room for
   module _ (c₀ : ℕ) where
     none : (s : Swing) → length (onSwing left c₀ s (λ d. stop AtTangle) .visits) ≤ 0
-    none Border = omega arith
-    none Tangled = omega arith
-    none (To d) = go (closes left c₀ (d .0))
+    none border = omega arith
+    none tangle = omega arith
+    none (to d) = go (closes left c₀ d)
       where
         go : (b : Bool) → length (cond b (stop AtStart) (stop AtTangle) .visits) ≤ 0
         go true = omega arith
@@ -144,13 +182,13 @@ module _ (left : Bool) (opp mark : List ℕ) (used : ℕ) where
 
     one-more : (n : ℕ) (k : ℕ → Side) → ((d : ℕ) → length (k d .visits) ≤ n) → (s : Swing)
         → length (onSwing left c₀ s (λ d. more d (k d)) .visits) ≤ suc n
-    one-more n k all Border = omega arith
-    one-more n k all Tangled = omega arith
-    one-more n k all (To d) = go (closes left c₀ (d .0))
+    one-more n k all border = omega arith
+    one-more n k all tangle = omega arith
+    one-more n k all (to d) = go (closes left c₀ d)
       where
-        go : (b : Bool) → length (cond b (stop AtStart) (more (d .0) (k (d .0))) .visits) ≤ suc n
+        go : (b : Bool) → length (cond b (stop AtStart) (more d (k d)) .visits) ≤ suc n
         go true = omega arith
-        go false = suc-le-suc (all (d .0))
+        go false = suc-le-suc (all d)
 
     pub side-bound : (room c : ℕ) → length (side left opp mark used c₀ room c .visits) ≤ room
     unfolding side
@@ -160,84 +198,112 @@ module _ (left : Bool) (opp mark : List ℕ) (used : ℕ) where
 
 -- ---- the same turn of the walk from the slot that it crosses: the corner itself is that slot turned back
 
-turn-back : (left : Bool) (c : ℕ) → turn (not left) (turn left c) ≡ c
-turn-back true c = previous-next c
-turn-back false c = next-previous c
+pub turn-forth : (left : Bool) (c : ℕ) → turn (not left) (turn left c) ≡ c
+turn-forth true c = previous-next c
+turn-forth false c = next-previous c
 
-turn-forth : (left : Bool) (c : ℕ) → turn left (turn (not left) c) ≡ c
-turn-forth true c = next-previous c
-turn-forth false c = previous-next c
+pub turn-face : (left : Bool) (c : ℕ) → turn left c / 3 ≡ c / 3
+turn-face true c = next-face c
+turn-face false c = sym (next-face (previous c)) ∙ ap (λ (d : ℕ). d / 3) (next-previous c)
 
-turn-twice : (left : Bool) (c : ℕ) → turn (not left) (turn (not left) c) ≡ turn left c
-turn-twice true c = previous-previous c
-turn-twice false c = next-next c
+-- the swing that closes a ring, by the corner that it crosses to
+closes-last : (left : Bool) (c₀ o : ℕ) → o < absent → o ≡ lastCrossed left c₀ → closes left c₀ (turn left o) ≡ true
+unfolding lastCrossed
+closes-last true c₀ o b h = eq-eqb (next o) c₀ (ap next h ∙ next-previous c₀)
+closes-last false c₀ o b h = absurd (omega arith)
 
-module _ (mark : List ℕ) (used o x : ℕ) (at : o ≡ x) where
-  pub across-border : o ≡ absent → Border ≡ across mark used x
-  unfolding across
-  across-border h = rw (← at, eq-eqb _ _ h)
+not-last : (left : Bool) (c₀ o : ℕ) → (o ≡ lastCrossed left c₀ → ⊥) → closes left c₀ (turn left o) ≡ false
+unfolding lastCrossed
+not-last true c₀ o h = ne-eqb (next o) c₀ (λ e. h (sym (previous-next o) ∙ ap previous e))
+not-last false c₀ o h = refl
 
-  module _ (there : o ≢ absent) (b : Bool) (is : b ≡ faceLive mark used o) where
-    pub across-tangled : b ≡ false → Tangled ≡ across mark used x
-    unfolding across
-    across-tangled h = rw (← at, ne-eqb _ _ there, ← is, h)
+-- ---- from slot to slot by the first slot of the face
 
-    pub across-to : b ≡ true → To (record { 0 = o }) ≡ across mark used x
-    unfolding across
-    across-to h = rw (← at, ne-eqb _ _ there, ← is, h)
+module _ (i b : ℕ) (at : b ≡ i / 3 * 3) where
+  pub onward-first : i ≡ b → b + 2 ≡ previous i
+  onward-first h = omega (arith, previous-first i (omega arith))
 
--- the last turn
-turned : Bool → Swing → Swing
-turned left Border = Border
-turned left Tangled = Tangled
-turned left (To o) = To (record { 0 = turn left (o .0) })
+  pub onward-before : (i ≡ b → ⊥) → i - 1 ≡ previous i
+  onward-before h = go (third i)
+    where
+      go : Third i → i - 1 ≡ previous i
+      go (first k) = absurd (h (omega arith))
+      go (second k) = sym (previous-second i k)
+      go (last k) = sym (previous-last i k)
 
-swing-across : (left : Bool) (opp mark : List ℕ) (used via : ℕ)
-    → turned left (across mark used (oppositeAt opp via)) ≡ swing left opp mark used (turn (not left) via)
-unfolding turned across swing
-swing-across left opp mark used via =
-    rw (turn-forth left via) (go (eqb (oppositeAt opp via) absent) (faceLive mark used (oppositeAt opp via)))
-  where
-    go : (a b : Bool) → turned left (cond a Border (cond b (To (record { 0 = oppositeAt opp via })) Tangled))
-        ≡ cond a Border (cond b (To (record { 0 = turn left (oppositeAt opp via) })) Tangled)
-    go true b = refl
-    go false true = refl
-    go false false = refl
+  pub onward-last : i ≡ b + 2 → b ≡ next i
+  onward-last h = omega (arith, next-last i (omega arith))
+
+  pub onward-after : (i ≡ b + 2 → ⊥) → i + 1 ≡ next i
+  onward-after h = go (third i)
+    where
+      go : Third i → i + 1 ≡ next i
+      go (first k) = sym (next-first i k)
+      go (second k) = sym (next-second i k)
+      go (last k) = absurd (h (omega arith))
 
 module _ (left : Bool) (opp mark : List ℕ) (used : ℕ) where
-  pub side-start : (c₀ room via : ℕ) → via ≡ turn left c₀ → side left opp mark used c₀ room (turn (not left) via) ≡ side left opp mark used c₀ room c₀
-  side-start c₀ room via e = ap (λ (c : ℕ). side left opp mark used c₀ room c) (ap (turn (not left)) e ∙ turn-back left c₀)
+  -- a loop knows its first corner by the slot that it begins at
+  pub at-start : (room c₀ via : ℕ) → via ≡ turn left c₀ → (n : ℕ) (e : End)
+      → (n ≡ length (side left opp mark used (turn (not left) via) room (turn (not left) via) .visits))
+      × (e ≡ side left opp mark used (turn (not left) via) room (turn (not left) via) .end)
+      → (n ≡ length (side left opp mark used c₀ room c₀ .visits)) × (e ≡ side left opp mark used c₀ room c₀ .end)
+  at-start room c₀ via is n e h = rw (ap (turn (not left)) is ∙ turn-forth left c₀) at h
 
-  module _ (c₀ via : ℕ) (r : Swing) (is : r ≡ across mark used (oppositeAt opp via)) where
-    by : turned left r ≡ swing left opp mark used (turn (not left) via)
-    by = ap (turned left) is ∙ swing-across left opp mark used via
+  -- a turn of the loop at the slot `via`: what lies across it, and whether that is in a live face
+  module _ (c₀ via o : ℕ) (at : o ≡ oppositeAt opp via) (t : Bool) (is : t ≡ faceLive mark used o) where
+    here : ℕ
+    here = turn (not left) via
 
-    pub over-border : (room : ℕ) → r ≡ Border → side left opp mark used c₀ room (turn (not left) via) ≡ stop AtBorder
-    unfolding turned
-    over-border room h = side-border left opp mark used c₀ (turn (not left) via) (turned left r) by room (ap (turned left) h)
+    over : o ≡ oppositeAt opp (turn left here)
+    unfolding here
+    over = at ∙ ap (oppositeAt opp) (sym (turn-back left via))
 
-    pub over-tangled : (room : ℕ) → r ≡ Tangled → side left opp mark used c₀ room (turn (not left) via) ≡ stop AtTangle
-    unfolding turned
-    over-tangled room h = side-tangled left opp mark used c₀ (turn (not left) via) (turned left r) by room (ap (turned left) h)
+    pub over-end : t ≡ false → (e : End) → e ≡ cond (eqb o absent) AtBorder AtTangle → (room : ℕ)
+        → side left opp mark used c₀ room (turn (not left) via) ≡ stop e
+    unfolding here
+    over-end off e ends room = go (ℕ-discrete o absent)
+      where
+        go : Dec (o ≡ absent) → side left opp mark used c₀ room (turn (not left) via) ≡ stop e
+        go (yes h) =
+            side-border left opp mark used c₀ here border (swing-border left opp mark used here o over h) room refl
+            ∙ ap stop (sym (ends ∙ rw (eq-eqb o absent h)))
+        go (no h) =
+            side-tangle left opp mark used c₀ here tangle (swing-tangle left opp mark used here o over h t is off) room refl
+            ∙ ap stop (sym (ends ∙ rw (ne-eqb o absent h)))
 
-    module _ (o : Corner) (to : r ≡ To o) where
-      pub over-below : used ≤ absent → turn left (o .0) < absent
-      unfolding turned
-      over-below u = to-below left opp mark used u (turn (not left) via) (turned left r) by (record { 0 = turn left (o .0) }) (ap (turned left) to)
+    module _ (on : t ≡ true) where
+      live-face : faceLive mark used o ≡ true
+      live-face = sym is ∙ on
 
-      module _ (d : Corner) (at : d .0 ≡ turn left (o .0)) (t : Bool) (test : t ≡ closes left c₀ (d .0)) where
-        lands : turned left r ≡ To d
-        unfolding turned
-        lands = ap (turned left) to ∙ ap (λ (n : ℕ). To (record { 0 = n })) (sym at)
+      pub over-inside : turn (not left) o < used
+      over-inside = face-turn mark used o (not left) live-face
 
-        pub over-closed : (room : ℕ) → t ≡ true → side left opp mark used c₀ room (turn (not left) via) ≡ stop AtStart
-        over-closed room h = side-closed left opp mark used c₀ (turn (not left) via) (turned left r) by d lands t test room h
+      module _ (u : used ≤ absent) (last : ℕ) (is-last : last ≡ lastCrossed left c₀) where
+        below : o < absent
+        below = omega (arith, face-used mark used o live-face)
 
-        pub over-out : (room : ℕ) → t ≡ false → room ≡ 0 → side left opp mark used c₀ room (turn (not left) via) ≡ stop AtTangle
-        over-out room h z = side-out left opp mark used c₀ (turn (not left) via) (turned left r) by d lands t test room h z
+        lands : to (turn left o) ≡ swing left opp mark used here
+        lands = swing-to left opp mark used here o over (λ h. absurd (omega (arith, below))) t is on
 
-        pub over-more : (room : ℕ) → t ≡ false → (room ≡ 0 → ⊥) → (on : ℕ) → on ≡ turn (not left) (o .0)
-            → side left opp mark used c₀ room (turn (not left) via) ≡ more (d .0) (side left opp mark used c₀ (room - 1) (turn (not left) on))
-        over-more room h p on e =
-            side-more left opp mark used c₀ (turn (not left) via) (turned left r) by d lands t test room h p
-            ∙ ap (λ (c : ℕ). more (d .0) (side left opp mark used c₀ (room - 1) c)) (at ∙ sym (ap (turn (not left)) e ∙ turn-twice left (o .0)))
+        pub over-closed : (room : ℕ) → o ≡ last → side left opp mark used c₀ room (turn (not left) via) ≡ stop AtStart
+        unfolding here
+        over-closed room h =
+            side-closed left opp mark used c₀ here (to (turn left o)) lands (turn left o) refl _ refl room
+            (closes-last left c₀ o below (h ∙ is-last))
+
+        open-still : (o ≡ last → ⊥) → closes left c₀ (turn left o) ≡ false
+        open-still h = not-last left c₀ o (λ e. h (e ∙ sym is-last))
+
+        pub over-out : (room : ℕ) → (o ≡ last → ⊥) → room ≡ 0 → side left opp mark used c₀ room (turn (not left) via) ≡ stop AtTangle
+        unfolding here
+        over-out room h z =
+            side-out left opp mark used c₀ here (to (turn left o)) lands (turn left o) refl _ refl room (open-still h) z
+
+        pub over-more : (room : ℕ) → (o ≡ last → ⊥) → (room ≡ 0 → ⊥) → (next-via : ℕ) → next-via ≡ turn (not left) o
+            → side left opp mark used c₀ room (turn (not left) via)
+            ≡ more (turn left o) (side left opp mark used c₀ (room - 1) (turn (not left) next-via))
+        unfolding here
+        over-more room h p next-via e =
+            side-more left opp mark used c₀ here (to (turn left o)) lands (turn left o) refl _ refl room (open-still h) p
+            ∙ ap (λ (c : ℕ). more (turn left o) (side left opp mark used c₀ (room - 1) c)) (sym (ap (turn (not left)) e ∙ not-turn-twice left o))

@@ -58,6 +58,10 @@ ringOf kind v t list =
     (refused 9 list))
     (refused 1 list)
 
+-- the same by what the code has found before the walk: an answer, or 0 with the used corners and the first
+abbrev pub begun : Kind → (cv co cm : List ℕ) → ℕ → (used c : ℕ) → List ℕ → Outcome
+begun kind cv co cm answer used c list = cond (eqb answer 0) (walked kind cv (walk co cm used c) list) (refused answer list)
+
 -- how many corners a walk visits after the first, as the code counts them
 abbrev pub counted : Walk → Counted
 counted tangled = Tangled

@@ -1,15 +1,12 @@
 -- The walk about a vertex, on any table. Document 01, "Ring lists and the walker".
-use Prim.Native.Nat.{ℕ, zero, suc, _-_}
+use Prim.Native.Nat.{ℕ, zero, suc, _+_, _-_}
 use mathlib.Core.List.{List, [], _∷_, _++_}
 use mathlib.Core.Bool.{Bool, true, false, cond, _&&_}
 use lib.ListN.{length}
 use lib.Dec.{eqb}
 use Rattle.corner.specs.Corner.{absent, next, previous, turn}
-use Rattle.corner.specs.declared.Corner.{Corner}
-use Rattle.table.specs.Slots.{oppositeAt}
+use Rattle.table.specs.Slots.{oppositeAt, markAt}
 use Rattle.table.specs.Table.{live}
-use Rattle.traversal.specs.declared.Swing.{Swing}
-use Rattle.traversal.specs.declared.Swing.the-variants.{Border, Tangled, To}
 use Rattle.traversal.specs.declared.End.{End}
 use Rattle.traversal.specs.declared.End.the-variants.{AtBorder, AtTangle, AtStart}
 
@@ -17,16 +14,22 @@ use Rattle.traversal.specs.declared.End.the-variants.{AtBorder, AtTangle
 unfoldable pub faceLive : List ℕ → ℕ → ℕ → Bool
 faceLive mark used c = live mark used c && (live mark used (next c) && live mark used (previous c))
 
+-- the same marks from the face's first slot on, as the code reads them
+unfoldable pub unmarked : List ℕ → ℕ → Bool
+unmarked mark b = eqb (markAt mark b) 0 && (eqb (markAt mark (b + 1)) 0 && eqb (markAt mark (b + 2)) 0)
+
+-- what a swing finds
+pub data Swing : Type 0 where
+  border : Swing
+  tangle : Swing
+  to : ℕ → Swing
+
 -- "swing left is next, opposite, next; swing right is previous, opposite, previous": a border where there is no opposite
 abbrev pub onto : Bool → List ℕ → ℕ → ℕ → Swing
-onto left mark used o = cond (eqb o absent) Border (cond (faceLive mark used o) (To (record { 0 = turn left o })) Tangled)
+onto left mark used o = cond (eqb o absent) border (cond (faceLive mark used o) (to (turn left o)) tangle)
 
 unfoldable pub swing : Bool → List ℕ → List ℕ → ℕ → ℕ → Swing
 swing left opp mark used c = onto left mark used (oppositeAt opp (turn left c))
-
--- the same before the last turn, as the code's loops have it: what lies across an edge
-unfoldable pub across : List ℕ → ℕ → ℕ → Swing
-across mark used o = cond (eqb o absent) Border (cond (faceLive mark used o) (To (record { 0 = o })) Tangled)
 
 -- one side of a walk: the corners that it visits, in order, and how it ends
 pub record Side : Type 0 where
@@ -43,11 +46,15 @@ more d s = record { visits = d ∷ s .visits; end = s .end }
 abbrev pub closes : Bool → ℕ → ℕ → Bool
 closes left c₀ d = left && eqb d c₀
 
+-- the corner that such a swing crosses to, as the code tests it; a walk to the right has none
+unfoldable pub lastCrossed : Bool → ℕ → ℕ
+lastCrossed left c₀ = cond left (previous c₀) absent
+
 -- what a swing leads to: an end, or a corner that is visited unless it closes the ring
 abbrev pub onSwing : Bool → ℕ → Swing → (ℕ → Side) → Side
-onSwing left c₀ Border visit = stop AtBorder
-onSwing left c₀ Tangled visit = stop AtTangle
-onSwing left c₀ (To d) visit = cond (closes left c₀ (d .0)) (stop AtStart) (visit (d .0))
+onSwing left c₀ border visit = stop AtBorder
+onSwing left c₀ tangle visit = stop AtTangle
+onSwing left c₀ (to d) visit = cond (closes left c₀ d) (stop AtStart) (visit d)
 
 -- the rest of the walk from c, with room for so many visits more; it began at c₀. Without room a visit is a tangle
 unfoldable pub side : Bool → List ℕ → List ℕ → ℕ → ℕ → ℕ → ℕ → Side

@@ -1,21 +1,25 @@
 // traversal.rs: the corners, vertices, faces, edges and bounding edges around a vertex, written to a lent list.
 //
 // All five lists are maps of one walk: swings to the left from the vertex's corner until it is back there, or, past a border, from
-// that corner to the right too. It runs twice: once to count, so that a refused call writes nothing, and once to write.
+// that corner to the right too. It is made twice: first with every test, to count, so that a refused call writes nothing; then as many
+// swings again, without a test, to write.
 ghost use mathlib.Core.Path.{_≡_};
-ghost use mathlib.Core.Bool.{true, cond};
-ghost use mathlib.Core.List.{map, _∷_};
-ghost use Prim.Native.Nat.{_<_, _≤_, min};
-ghost use lib.Dec.{leb};
-ghost use lib.ListN.{length};
+ghost use mathlib.Core.Bool.{true, false, not, cond};
+ghost use mathlib.Core.List.{List, map};
+ghost use Prim.Native.Nat.{ℕ, _+_, _*_, _/_, _<_, _≤_, min};
+ghost use lib.Dec.{eqb, leb};
+ghost use lib.ListN.{length, getD};
 ghost use lib.Seq.{sets};
-ghost use Rattle.corner.specs.Corner.{absent};
+ghost use Rattle.corner.specs.Corner.{absent, turn};
 ghost use Rattle.table.specs.Slots.{oppositeAt};
 ghost use Rattle.table.specs.Table.{table};
-ghost use Rattle.traversal.specs.Walk.{faceLive, across, swing, closes as closesOf, side, walk};
+ghost use Rattle.traversal.specs.Walk.{unmarked as unmarkedOf, faceLive, lastCrossed, side, walk};
+ghost use Rattle.traversal.specs.Reached.{reached, Inside, Fit};
 ghost use Rattle.traversal.specs.Lists.{entry as entryOf, twice as twiceOf};
-ghost use Rattle.traversal.specs.Ring.{outcome, walked, ringOf, counted, needed, tooShort};
+ghost use Rattle.traversal.specs.Ring.{outcome, walked, begun, ringOf, counted, needed, tooShort};
+ghost use Rattle.traversal.specs.declared.End.the-variants.{AtBorder, AtTangle};
 ghost use Rattle.traversal.specs.declared.Counted.the-variants.{Closed, Open};
+ghost use Rattle.traversal.specs.declared.Kind.{Kind};
 ghost use Rattle.traversal.specs.declared.Kind.the-variants.{Corners, Vertices, Faces, Edges, BoundingEdges};
 use corner::Corner;
 use table::Counts;
@@ -33,13 +37,6 @@ pub enum Kind {
     Faces,
     Edges,
     BoundingEdges,
-}
-
-// What a swing finds.
-pub enum Swing {
-    Border,
-    Tangled,
-    To(Corner),
 }
 
 // How one side of a walk ends.
@@ -71,102 +68,121 @@ pub struct Ring {
 
 // ---- one swing
 
-// Whether all three corners of c's face are live.
-pub fn face_live(cm: &[u32], used: u32, c: Corner) -> bool
-    ensures { λ r. ⌜ r ≡ faceLive (now (cm .entry)) used (c .0) ⌝ }
+// As `at`, where the slot is known to be inside the list: nothing is tested.
+fn slot(l: &[u32], i: usize, none: u32) -> u32
+    requires { ⌜ i < length (now l) ⌝ }
+    ensures { λ r. ⌜ r ≡ getD (now (l .entry)) i none ⌝ }
 {
-    if is_live(cm, used, c.0 as usize) {
-        if is_live(cm, used, c.next_index()) {
-            return is_live(cm, used, c.previous_index());
+    l[i]
+}
+
+// Whether the three corners of the face that begins at slot b have mark 0. All three are read first: one test is made of them.
+fn unmarked(cm: &[u32], b: usize) -> bool
+    requires { ⌜ b + 2 < length (now cm) ⌝ }
+    ensures { λ r. ⌜ r ≡ unmarkedOf (now (cm .entry)) b ⌝ }
+{
+    let x = slot(cm, b, 1);
+    let y = slot(cm, b + 1, 1);
+    let z = slot(cm, b + 2, 1);
+    if x == 0 {
+        if y == 0 {
+            return z == 0;
         }
     }
     false
 }
 
-pub fn swing_from(left: bool, co: &[u32], cm: &[u32], used: u32, c: Corner) -> Swing
-    ensures { λ r. ⌜ r ≡ swing left (now (co .entry)) (now (cm .entry)) used (c .0) ⌝ }
+// Whether the face that begins at slot b is used, and its three corners live.
+fn all_live(cm: &[u32], used: u32, b: usize) -> bool
+    requires { ⌜ used ≤ length (now cm) ⌝ }
+    requires { ⌜ b ≤ absent ⌝ }
+    ensures { λ r. ⌜ ((c : ℕ) → b ≡ c / 3 * 3 → r ≡ faceLive (now (cm .entry)) used c) ⌝ }
 {
-    let o = at(co, c.turn_index(left), 4294967295);
-    if o == 4294967295 {
-        return Swing::Border;
+    if b + 2 < used as usize {
+        return unmarked(cm, b);
     }
-    if face_live(cm, used, Corner(o)) {
-        return Swing::To(Corner(Corner(o).turn_index(left) as u32));
-    }
-    Swing::Tangled
+    false
 }
 
-// What lies across the edge at a slot: a border, or a corner whose face has to be live. A loop over a walk crosses from slot to slot,
-// as the Rust does, so that a step turns about one corner only.
-pub fn cross(co: &[u32], cm: &[u32], used: u32, via: usize) -> Swing
-    ensures { λ r. ⌜ r ≡ across (now (cm .entry)) used (oppositeAt (now (co .entry)) via) ⌝ }
+// The slot that the walk goes on from after it has crossed to o: before o (to the left) or after it. It is `turn_index` to the other
+// side, by the first slot of o's face, which the loop has at hand.
+fn onward(left: bool, o: usize, b: usize) -> usize
+    requires { ⌜ (b ≡ o / 3 * 3) × (o < absent) ⌝ }
+    ensures { λ r. ⌜ r ≡ turn (not left) o ⌝ }
 {
-    let o = at(co, via, 4294967295);
-    if o == 4294967295 {
-        return Swing::Border;
+    if left {
+        if o == b { b + 2 } else { o - 1 }
+    } else {
+        if o == b + 2 { b } else { o + 1 }
     }
-    if face_live(cm, used, Corner(o)) {
-        return Swing::To(Corner(o));
-    }
-    Swing::Tangled
 }
 
-// Whether a swing that leads to d closes the ring that began at start.
-pub fn closes(left: bool, start: Corner, d: Corner) -> bool
-    ensures { λ r. ⌜ r ≡ closesOf left (start .0) (d .0) ⌝ }
+// The corner that is crossed to where a walk to the left is back at its start. A walk to the right does not close.
+fn last_crossed(left: bool, start: Corner) -> Corner
+    requires { ⌜ start .0 < absent ⌝ }
+    ensures { λ r. ⌜ r .0 ≡ lastCrossed left (start .0) ⌝ }
 {
-    if left { d.0 == start.0 } else { false }
+    if left {
+        start.previous()
+    } else {
+        Corner(4294967295)
+    }
 }
 
 // ---- the walk, counted
 
-// Counts the visits of one side after its first corner, for which there is `room`.
-pub fn count_side(left: bool, co: &[u32], cm: &[u32], used: u32, start: Corner, room: u32) -> Count
-    ensures { λ r. ⌜ (r .visits ≡ length (side left (now (co .entry)) (now (cm .entry)) used (start .0) room (start .0) .visits))
-        × (r .end ≡ side left (now (co .entry)) (now (cm .entry)) used (start .0) room (start .0) .end) ⌝ }
+// How a side ends where it crosses to no live face.
+fn end_at(o: u32) -> End
+    ensures { λ r. ⌜ r ≡ cond (eqb o absent) AtBorder AtTangle ⌝ }
 {
-    let mut via = start.turn_index(left);
-    let mut rest = room;
-    loop {
-        let s = cross(co, cm, used, via);
-        match s {
-            Swing::Border => {
-                return Count {
-                    visits: room - rest,
-                    end: End::AtBorder,
-                };
-            }
-            Swing::Tangled => {
-                return Count {
-                    visits: room - rest,
-                    end: End::AtTangle,
-                };
-            }
-            Swing::To(o) => {
-                let d = Corner(o.turn_index(left) as u32);
-                if closes(left, start, d) {
-                    return Count {
-                        visits: room - rest,
-                        end: End::AtStart,
-                    };
-                }
-                if rest == 0 {
-                    return Count {
-                        visits: room,
-                        end: End::AtTangle,
-                    };
-                }
-                rest -= 1;
-                via = o.turn_index(!left);
-            }
-        }
+    if o == 4294967295 {
+        End::AtBorder
+    } else {
+        End::AtTangle
     }
 }
 
-pub fn count_walk(co: &[u32], cm: &[u32], used: u32, start: Corner) -> Counted
+// Counts the visits of one side after its first corner, for which there is `room`. It crosses from slot to slot, as the Rust does, so
+// that a step turns about one corner only, and divides by 3 once.
+fn count_side(left: bool, co: &[u32], cm: &[u32], used: u32, start: Corner, room: u32) -> Count
+    requires { ⌜ (used ≤ length (now co)) × (used ≤ length (now cm)) × (faceLive (now cm) used (start .0) ≡ true) ⌝ }
+    ensures { λ r. ⌜ (r .visits ≡ length (side left (now (co .entry)) (now (cm .entry)) used (start .0) room (start .0) .visits))
+        × (r .end ≡ side left (now (co .entry)) (now (cm .entry)) used (start .0) room (start .0) .end) ⌝ }
+{
+    let last = last_crossed(left, start);
+    let mut via = start.turn_index(left);
+    let mut rest = room;
+    loop {
+        let o = slot(co, via, 4294967295);
+        let b = o as usize / 3 * 3;
+        if !all_live(cm, used, b) {
+            return Count {
+                visits: room - rest,
+                end: end_at(o),
+            };
+        }
+        if o == last.0 {
+            return Count {
+                visits: room - rest,
+                end: End::AtStart,
+            };
+        }
+        if rest == 0 {
+            return Count {
+                visits: room,
+                end: End::AtTangle,
+            };
+        }
+        rest -= 1;
+        via = onward(left, o as usize, b);
+    }
+}
+
+fn count_walk(co: &[u32], cm: &[u32], used: u32, start: Corner) -> Counted
+    requires { ⌜ (used ≤ length (now co)) × (used ≤ length (now cm)) ⌝ }
     ensures { λ r. ⌜ r ≡ counted (walk (now (co .entry)) (now (cm .entry)) used (start .0)) ⌝ }
 {
-    if face_live(cm, used, start) {
+    if all_live(cm, used, start.0 as usize / 3 * 3) {
         let l = count_side(true, co, cm, used, start, used - 1);
         let n = l.visits;
         let e = l.end;
@@ -191,17 +207,17 @@ pub fn count_walk(co: &[u32], cm: &[u32], used: u32, start: Corner) -> Counted
 
 // ---- the walk, written
 
-// What a list has for the corner c.
-fn entry(kind: Kind, cv: &[u32], left: bool, c: Corner) -> u32
-    requires { ⌜ c .0 < absent ⌝ }
-    ensures { λ r. ⌜ r ≡ entryOf kind (now (cv .entry)) left (c .0) ⌝ }
+// What a list has for the corner that a swing crossing to o leads to.
+fn entry(kind: Kind, cv: &[u32], left: bool, o: Corner) -> u32
+    requires { ⌜ (o .0 < length (now cv)) × (length (now cv) < absent) ⌝ }
+    ensures { λ r. ⌜ r ≡ entryOf kind (now (cv .entry)) left (turn left (o .0)) ⌝ }
 {
     match kind {
-        Kind::Corners => c.0,
-        Kind::Vertices => at(cv, c.turn_index(!left), 0),
-        Kind::Faces => c.0 / 3,
-        Kind::Edges => c.turn_index(left) as u32,
-        Kind::BoundingEdges => c.0,
+        Kind::Corners => o.turn_index(left) as u32,
+        Kind::Vertices => slot(cv, o.0 as usize, 0),
+        Kind::Faces => o.0 / 3,
+        Kind::Edges => o.turn_index(!left) as u32,
+        Kind::BoundingEdges => o.turn_index(left) as u32,
     }
 }
 
@@ -218,77 +234,41 @@ fn twice(kind: Kind) -> bool
     }
 }
 
-// Writes the entries of one side after its first corner, from `first` on.
+// Writes n entries of one side, from `first` on: those of the corners that crossing to o leads to, and so on from there. They have
+// been counted: nothing is tested here.
 fn write_side(
     kind: Kind,
     left: bool,
     cv: &[u32],
     co: &[u32],
-    cm: &[u32],
-    used: u32,
-    start: Corner,
-    room: u32,
+    o: u32,
     list: &mut [u32],
     first: usize,
+    n: usize,
 )
-    requires { ⌜ first ≤ absent ⌝ }
+    requires { ⌜ (length (now cv) < absent) × (first + n ≤ length (now list)) × Inside left (now co) (length (now cv)) n o ⌝ }
     ensures { λ r. ⌜ now (list .exit) ≡ sets (now (list .entry)) first
-        (map (entryOf kind (now (cv .entry)) left) (side left (now (co .entry)) (now (cm .entry)) used (start .0) room (start .0) .visits)) ⌝ }
+        (map (entryOf kind (now (cv .entry)) left) (reached left (now (co .entry)) n o)) ⌝ }
 {
-    let mut via = start.turn_index(left);
-    let mut rest = room;
+    let end = first + n;
+    let mut at = o;
     let mut i = first;
-    loop {
-        let s = cross(co, cm, used, via);
-        match s {
-            Swing::Border => {
-                return;
-            }
-            Swing::Tangled => {
-                return;
-            }
-            Swing::To(o) => {
-                let d = Corner(o.turn_index(left) as u32);
-                if closes(left, start, d) {
-                    return;
-                }
-                if rest == 0 {
-                    return;
-                }
-                put(list, i, entry(kind, cv, left, d));
-                i += 1;
-                rest -= 1;
-                via = o.turn_index(!left);
-            }
-        }
+    while i < end {
+        list[i] = entry(kind, cv, left, Corner(at));
+        i += 1;
+        at = slot(co, Corner(at).turn_index(!left), 4294967295);
     }
 }
 
-// The same, with the entry of the first corner before them where it has one on this side.
-fn write_part(
-    kind: Kind,
-    left: bool,
-    whole: bool,
-    cv: &[u32],
-    co: &[u32],
-    cm: &[u32],
-    used: u32,
-    start: Corner,
-    room: u32,
-    list: &mut [u32],
-    first: usize,
-)
-    requires { ⌜ (start .0 < absent) × (first < absent) ⌝ }
-    ensures { λ r. ⌜ now (list .exit) ≡ sets (now (list .entry)) first (map (entryOf kind (now (cv .entry)) left)
-        (cond whole (start .0 ∷ side left (now (co .entry)) (now (cm .entry)) used (start .0) room (start .0) .visits)
-        (side left (now (co .entry)) (now (cm .entry)) used (start .0) room (start .0) .visits))) ⌝ }
+// What the right side begins with: the first corner where it has an entry there too, by the slot that leads to it; else the next one.
+fn right_from(kind: Kind, co: &[u32], start: Corner) -> u32
+    requires { ⌜ (start .0 < absent) × (turn false (start .0) < length (now co)) ⌝ }
+    ensures { λ r. ⌜ r ≡ cond (twiceOf kind) (turn true (start .0)) (oppositeAt (now (co .entry)) (turn false (start .0))) ⌝ }
 {
-    if whole {
-        put(list, first, entry(kind, cv, left, start));
-        write_side(kind, left, cv, co, cm, used, start, room, list, first + 1);
-    } else {
-        write_side(kind, left, cv, co, cm, used, start, room, list, first);
+    if twice(kind) {
+        return start.next().0;
     }
+    slot(co, start.previous_index(), 4294967295)
 }
 
 // ---- the call
@@ -314,14 +294,14 @@ fn write_closed(
     list: &mut [u32],
     l: u32,
 ) -> Ring
-    requires { ⌜ used < absent ⌝ }
+    requires { ⌜ Fit (now cv) (now co) (now cm) used ⌝ }
     requires { ⌜ Closed l ≡ counted (walk (now co) (now cm) used (start .0)) ⌝ }
     requires { ⌜ needed kind (Closed l) ≤ length (now list) ⌝ }
     ensures { λ r. ⌜ outcome r (now (list .exit))
         ≡ walked kind (now (cv .entry)) (walk (now (co .entry)) (now (cm .entry)) used (start .0)) (now (list .entry)) ⌝ }
 {
     let n = l + 1;
-    write_part(kind, true, true, cv, co, cm, used, start, used - 1, list, 0);
+    write_side(kind, true, cv, co, start.previous().0, list, 0, n as usize);
     Ring {
         answer: 0,
         visited: n,
@@ -348,7 +328,7 @@ fn write_open(
     l: u32,
     r: u32,
 ) -> Ring
-    requires { ⌜ used < absent ⌝ }
+    requires { ⌜ Fit (now cv) (now co) (now cm) used ⌝ }
     requires { ⌜ Open l r ≡ counted (walk (now co) (now cm) used (start .0)) ⌝ }
     requires { ⌜ needed kind (Open l r) ≤ length (now list) ⌝ }
     ensures { λ r. ⌜ outcome r (now (list .exit))
@@ -356,22 +336,10 @@ fn write_open(
 {
     let seen = l + 1 + r;
     let m = seen + extra(kind);
-    write_part(kind, true, true, cv, co, cm, used, start, used - 1, list, 0);
-    let both = twice(kind);
     let i = (l + 1) as usize;
-    write_part(
-        kind,
-        false,
-        both,
-        cv,
-        co,
-        cm,
-        used,
-        start,
-        used - 1 - l,
-        list,
-        i,
-    );
+    let o = right_from(kind, co, start);
+    write_side(kind, true, cv, co, start.previous().0, list, 0, i);
+    write_side(kind, false, cv, co, o, list, i, m as usize - i);
     Ring {
         answer: 0,
         visited: seen,
@@ -411,7 +379,7 @@ fn ring_from(
     start: Corner,
     list: &mut [u32],
 ) -> Ring
-    requires { ⌜ used < absent ⌝ }
+    requires { ⌜ Fit (now cv) (now co) (now cm) used ⌝ }
     ensures { λ r. ⌜ outcome r (now (list .exit))
         ≡ walked kind (now (cv .entry)) (walk (now (co .entry)) (now (cm .entry)) used (start .0)) (now (list .entry)) ⌝ }
 {
@@ -437,8 +405,25 @@ pub fn used_slots(count: u32, room: usize) -> u32
     }
 }
 
-fn ring_list(
-    kind: Kind,
+// What stands before a walk: the answer 1, 9 or 10; or 0, and where it begins.
+struct Start {
+    answer: u32,
+    used: u32,
+    corner: Corner,
+}
+
+fn stopped(answer: u32) -> Start
+    ensures { λ r. ⌜ r .answer ≡ answer ⌝ }
+{
+    Start {
+        answer: answer,
+        used: 0,
+        corner: Corner::ABSENT,
+    }
+}
+
+// The refusals before a walk, and its first corner. Each of the five calls has this in itself, and hands on what the walk needs alone.
+fn start_of(
     cv: &[u32],
     co: &[u32],
     cm: &[u32],
@@ -447,28 +432,29 @@ fn ring_list(
     vp: &[f32],
     counts: Counts,
     vertex: Vertex,
-    list: &mut [u32],
-) -> Ring
-    ensures { λ r. ⌜ outcome r (now (list .exit)) ≡ ringOf kind (vertex .0)
+) -> Start
+    ensures { λ r. ⌜ ((kind : Kind) (list : List ℕ) → ringOf kind (vertex .0)
         (table (now (cv .entry)) (now (co .entry)) (now (cm .entry)) (now (vc .entry)) (now (vm .entry)) (now (vp .entry))
-        (counts .vertices) (counts .corners)) (now (list .entry)) ⌝ }
+        (counts .vertices) (counts .corners)) list
+        ≡ begun kind (now (cv .entry)) (now (co .entry)) (now (cm .entry)) (r .answer) (r .used) (r .corner .0) list)
+        × (r .answer ≡ 0 → Fit (now (cv .entry)) (now (co .entry)) (now (cm .entry)) (r .used)) ⌝ }
 {
     if is_shaped(cv.len(), co.len(), cm.len(), vc.len(), vm.len(), vp.len()) {
         let used = used_slots(counts.corners, cm.len());
         let known = used_slots(counts.vertices, vm.len());
         if vertex.0 < known {
             if at(vm, vertex.0 as usize, 1) == 0 {
-                let start = corner_of(vc, vertex);
-                ring_from(kind, cv, co, cm, used, start, list)
-            } else {
-                refused(10)
+                return Start {
+                    answer: 0,
+                    used: used,
+                    corner: corner_of(vc, vertex),
+                };
             }
-        } else {
-            refused(9)
+            return stopped(10);
         }
-    } else {
-        refused(1)
+        return stopped(9);
     }
+    stopped(1)
 }
 
 // The corners around a vertex.
@@ -487,10 +473,14 @@ pub fn ring_corners(
         (table (now (cv .entry)) (now (co .entry)) (now (cm .entry)) (now (vc .entry)) (now (vm .entry)) (now (vp .entry))
         (counts .vertices) (counts .corners)) (now (list .entry)) ⌝ }
 {
-    ring_list(Kind::Corners, cv, co, cm, vc, vm, vp, counts, vertex, list)
+    let s = start_of(cv, co, cm, vc, vm, vp, counts, vertex);
+    if s.answer == 0 {
+        return ring_from(Kind::Corners, cv, co, cm, s.used, s.corner, list);
+    }
+    refused(s.answer)
 }
 
-// The vertices next to a vertex.
+// The vertices around a vertex.
 pub fn ring_vertices(
     cv: &[u32],
     co: &[u32],
@@ -506,7 +496,11 @@ pub fn ring_vertices(
         (table (now (cv .entry)) (now (co .entry)) (now (cm .entry)) (now (vc .entry)) (now (vm .entry)) (now (vp .entry))
         (counts .vertices) (counts .corners)) (now (list .entry)) ⌝ }
 {
-    ring_list(Kind::Vertices, cv, co, cm, vc, vm, vp, counts, vertex, list)
+    let s = start_of(cv, co, cm, vc, vm, vp, counts, vertex);
+    if s.answer == 0 {
+        return ring_from(Kind::Vertices, cv, co, cm, s.used, s.corner, list);
+    }
+    refused(s.answer)
 }
 
 // The faces around a vertex.
@@ -525,7 +519,11 @@ pub fn ring_faces(
         (table (now (cv .entry)) (now (co .entry)) (now (cm .entry)) (now (vc .entry)) (now (vm .entry)) (now (vp .entry))
         (counts .vertices) (counts .corners)) (now (list .entry)) ⌝ }
 {
-    ring_list(Kind::Faces, cv, co, cm, vc, vm, vp, counts, vertex, list)
+    let s = start_of(cv, co, cm, vc, vm, vp, counts, vertex);
+    if s.answer == 0 {
+        return ring_from(Kind::Faces, cv, co, cm, s.used, s.corner, list);
+    }
+    refused(s.answer)
 }
 
 // The edges at a vertex, each as its corner.
@@ -544,7 +542,11 @@ pub fn ring_edges(
         (table (now (cv .entry)) (now (co .entry)) (now (cm .entry)) (now (vc .entry)) (now (vm .entry)) (now (vp .entry))
         (counts .vertices) (counts .corners)) (now (list .entry)) ⌝ }
 {
-    ring_list(Kind::Edges, cv, co, cm, vc, vm, vp, counts, vertex, list)
+    let s = start_of(cv, co, cm, vc, vm, vp, counts, vertex);
+    if s.answer == 0 {
+        return ring_from(Kind::Edges, cv, co, cm, s.used, s.corner, list);
+    }
+    refused(s.answer)
 }
 
 // The edges opposite a vertex, each as its corner.
@@ -563,16 +565,9 @@ pub fn ring_bounding_edges(
         (table (now (cv .entry)) (now (co .entry)) (now (cm .entry)) (now (vc .entry)) (now (vm .entry)) (now (vp .entry))
         (counts .vertices) (counts .corners)) (now (list .entry)) ⌝ }
 {
-    ring_list(
-        Kind::BoundingEdges,
-        cv,
-        co,
-        cm,
-        vc,
-        vm,
-        vp,
-        counts,
-        vertex,
-        list,
-    )
+    let s = start_of(cv, co, cm, vc, vm, vp, counts, vertex);
+    if s.answer == 0 {
+        return ring_from(Kind::BoundingEdges, cv, co, cm, s.used, s.corner, list);
+    }
+    refused(s.answer)
 }

@@ -59,6 +59,11 @@ macro_rules! with_table {
     }};
 }
 
+type RingCall = unsafe extern "C" fn(*mut u32, usize, *mut u32, usize, *mut u32, usize, *mut u32, usize, *mut u32, usize,
+    *mut f32, usize, u32, u32, u32, *mut u32, usize) -> Listed;
+const RINGS: [RingCall; 5] = [strandomir_ring_corners, strandomir_ring_vertices, strandomir_ring_faces, strandomir_ring_edges,
+    strandomir_ring_bounding_edges];
+
 impl Lent {
     pub fn of(table: &Table) -> Lent {
         let parts = std::array::from_fn(|part| Memory::of(&table.parts[part]));
@@ -86,11 +91,23 @@ impl Lent {
     }
 
     pub fn ring(&mut self, kind: usize, vertex: u32, list: &mut Memory) -> Listed {
-        let call = [strandomir_ring_corners, strandomir_ring_vertices, strandomir_ring_faces, strandomir_ring_edges,
-            strandomir_ring_bounding_edges][kind];
+        let call = RINGS[kind];
         let length = list.len();
         let list = list.pointer();
         with_table!(call, self, [], [vertex, list, length])
+    }
+
+    /// The rings of all vertices, a call each. What is lent is made out once: a caller has it at hand.
+    pub fn rings(&mut self, kind: usize, list: &mut Memory, mut each: impl FnMut(Listed)) {
+        let call = RINGS[kind];
+        let (length, list) = (list.len(), list.pointer());
+        let [a, b, c, d, e, f] = self.parts.each_mut().map(|part| (part.pointer(), part.len()));
+        for vertex in 0..self.vertices {
+            // SAFETY: as in `with_table`.
+            each(unsafe {
+                call(a.0, a.1, b.0, b.1, c.0, c.1, d.0, d.1, e.0, e.1, f.0 as *mut f32, f.1, self.vertices, self.corners, vertex, list, length)
+            });
+        }
     }
 
     pub fn walk(&mut self, kind: usize, corner: &mut u32) -> Moved {

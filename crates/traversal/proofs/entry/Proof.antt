@@ -1,24 +1,36 @@
 -- `entry` meets its contract. Assumes nothing.
 use Rattle.traversal.specs.Lists.{entry}
-use Rattle.corner.proofs.Turns.{turn-below}
+use Rattle.corner.proofs.Turns.{turn-below, turn-twice}
+use Rattle.traversal.proofs.Steps.{turn-forth, turn-face}
 use Rattle.corner.specs.Corner.{absent}
+use mathlib.Core.Bool.{not}
+use mathlib.Core.Path.{refl, sym, ap, _∙_}
 use native.Mathlib.Omega.{arith}
-use mathlib.Core.Path.{refl}
 use borrow.Author.Needs.{needs}
 use Rattle.traversal.proofs.entry.Statement.{statement}
 use Rattle.traversal.proofs.entry.Tie as tie
+use Rattle.traversal.proofs.entry.Reads as reads
+use Rattle.traversal.proofs.entry.Lts as lts
+use Rattle.corner.proofs.Corner.turn_index.Reads as turn-index-reads
+use Rattle.traversal.proofs.slot.Reads as slot-reads
 
 enum-told : tie.Need-enum-told
 enum-told c = search needs
 
-enum-told-2 : tie.Need-enum-told-2
-enum-told-2 c = search needs
-
 turn-index-requires : tie.Need-turn-index-requires
 turn-index-requires c κs = search needs
 
-at-requires : tie.Need-at-requires
-at-requires c κs = search needs
+cast-result : tie.Need-cast-result
+cast-result c = let a = c .before .before .before .before .args in omega (arith, turn-below (a .left) (a .o .0) absent refl (omega (arith, c .before .before .before .before .pre)), c .turn-index .ensures)
+
+enum-told-2 : tie.Need-enum-told-2
+enum-told-2 c = search needs
+
+cast-slot : tie.Need-cast-slot
+cast-slot c = search needs
+
+slot-requires : tie.Need-slot-requires
+slot-requires c κs = search needs
 
 enum-told-3 : tie.Need-enum-told-3
 enum-told-3 c = search needs
@@ -29,45 +41,55 @@ enum-told-4 c = search needs
 turn-index-requires-2 : tie.Need-turn-index-requires-2
 turn-index-requires-2 c κs = search needs
 
-cast-result : tie.Need-cast-result
-cast-result c = omega (arith, turn-below (c .before .before .before .before .args .left) (c .before .before .before .before .args .c .0) absent refl (omega arith), c .turn-index2 .ensures)
+cast-result-2 : tie.Need-cast-result-2
+cast-result-2 c = let a = c .before .before .before .before .args in omega (arith, turn-below (not (a .left)) (a .o .0) absent refl (omega (arith, c .before .before .before .before .pre)), c .turn-index2 .ensures)
 
 enum-told-5 : tie.Need-enum-told-5
 enum-told-5 c = search needs
 
+turn-index-requires-3 : tie.Need-turn-index-requires-3
+turn-index-requires-3 c κs = search needs
+
+cast-result-3 : tie.Need-cast-result-3
+cast-result-3 c = let a = c .before .before .before .before .args in omega (arith, turn-below (a .left) (a .o .0) absent refl (omega (arith, c .before .before .before .before .pre)), c .turn-index3 .ensures)
+
 returns : tie.Need-returns
 unfolding entry
-returns c = rw (c .enum-told .given .1)
+returns c = rw (c .before .enum-told .given .1) (c .turn-index .ensures)
 
 returns-2 : tie.Need-returns-2
 unfolding entry
-returns-2 c = rw (c .before .before .enum-told2 .given .1, ← c .before .turn-index .ensures) (c .at .ensures)
+returns-2 c = let a = c .before .before .before .before .before .args in rw (c .before .before .enum-told2 .given .1, turn-forth (a .left) (a .o .0)) (c .slot .ensures)
 
 returns-3 : tie.Need-returns-3
 unfolding entry
-returns-3 c = rw (c .before .enum-told3 .given .1)
+returns-3 c = let a = c .before .before .before .before .args in rw (c .before .enum-told3 .given .1) (sym (turn-face (a .left) (a .o .0)))
 
 returns-4 : tie.Need-returns-4
 unfolding entry
-returns-4 c = rw (c .before .enum-told4 .given .1) (c .turn-index2 .ensures)
+returns-4 c = let a = c .before .before .before .before .args in rw (c .before .enum-told4 .given .1, turn-twice (a .left) (a .o .0)) (c .turn-index2 .ensures)
 
 returns-5 : tie.Need-returns-5
 unfolding entry
-returns-5 c = rw (c .enum-told5 .given .1)
+returns-5 c = rw (c .before .enum-told5 .given .1) (c .turn-index3 .ensures)
 
 pub entry-spec : {M : Type 1} → statement M
 entry-spec =
     tie.close
     (tie.spec
     enum-told
-    enum-told-2
     turn-index-requires
-    at-requires
+    cast-result
+    enum-told-2
+    cast-slot
+    slot-requires
     enum-told-3
     enum-told-4
     turn-index-requires-2
-    cast-result
+    cast-result-2
     enum-told-5
+    turn-index-requires-3
+    cast-result-3
     returns
     returns-2
     returns-3

@@ -7,7 +7,7 @@ use Rattle.traversal.proofs.ring_from.Statement.{statement}
 use Rattle.traversal.proofs.ring_from.Tie as tie
 
 count-walk-requires : tie.Need-count-walk-requires
-count-walk-requires c κs = search needs
+count-walk-requires c κs = (c .before .before .before .before .pre .opposites, c .before .before .before .before .pre .marks)
 
 has-room-requires : tie.Need-has-room-requires
 has-room-requires c κs = search needs

@@ -1,11 +1,19 @@
 -- `write_open` meets its contract. Assumes nothing.
-use Rattle.traversal.proofs.Answers.{was-open, open-done, one-at-most}
+use Rattle.traversal.proofs.Answers.{was-open, open-done, one-at-most, left-inside, right-inside}
+use Rattle.traversal.proofs.Steps.{face-used, face-turn}
 use Rattle.traversal.specs.Lists.{twice}
-use mathlib.Core.Path.{refl}
+use mathlib.Core.Path.{refl, sym, ap, _∙_}
+use mathlib.Core.Bool.{false}
 use native.Mathlib.Omega.{arith}
 use borrow.Author.Needs.{needs}
 use Rattle.traversal.proofs.write_open.Statement.{statement}
 use Rattle.traversal.proofs.write_open.Tie as tie
+use Rattle.traversal.proofs.write_open.Reads as reads
+use Rattle.traversal.proofs.write_open.Lts as lts
+use Rattle.corner.proofs.Corner.previous.Reads as previous-reads
+use Rattle.traversal.proofs.extra.Reads as extra-reads
+use Rattle.traversal.proofs.right_from.Reads as right-from-reads
+use Rattle.traversal.proofs.write_side.Reads as write-side-reads
 
 add-seen : tie.Need-add-seen
 add-seen c = omega (arith, was-open _ _ _ _ _ _ (c .before .before .before .before .pre .1 .0) .bound)
@@ -17,37 +25,37 @@ extra-requires : tie.Need-extra-requires
 extra-requires c κs = search needs
 
 add-m : tie.Need-add-m
-add-m c = omega (arith, was-open _ _ _ _ _ _ (c .before .before .before .before .before .pre .1 .0) .bound, c .before .before .before .before .before .pre .0, c .extra .ensures, one-at-most (twice (c .before .before .before .before .before .args .kind)))
-
-sub-write-part : tie.Need-sub-write-part
-sub-write-part c = omega (arith, was-open _ _ _ _ _ _ (c .before .before .before .before .before .pre .1 .0) .start)
-
-write-part-requires : tie.Need-write-part-requires
-write-part-requires c κs = (omega (arith, was-open _ _ _ _ _ _ (c .before .before .before .before .before .before .pre .1 .0) .start, c .before .before .before .before .before .before .pre .0), omega arith)
-
-twice-requires : tie.Need-twice-requires
-twice-requires c κs = search needs
+add-m c = omega (arith, was-open _ _ _ _ _ _ (c .before .before .before .before .before .pre .1 .0) .bound, c .before .before .before .before .before .pre .0 .below, c .before .before .before .before .before .pre .0 .vertices, c .extra .ensures, one-at-most (twice (c .before .before .before .before .before .args .kind)))
 
 add-i : tie.Need-add-i
-add-i c = omega (arith, was-open _ _ _ _ _ _ (c .before .before .before .before .before .before .before .before .before .before .pre .1 .0) .bound)
+add-i c = omega (arith, was-open _ _ _ _ _ _ (c .before .before .before .before .before .pre .1 .0) .bound)
 
 cast-i : tie.Need-cast-i
 cast-i c = search needs
 
-sub-write-part-2 : tie.Need-sub-write-part-2
-sub-write-part-2 c = omega (arith, was-open _ _ _ _ _ _ (c .before .before .before .before .before .before .before .before .before .before .pre .1 .0) .start)
+right-from-requires : tie.Need-right-from-requires
+right-from-requires c κs = (omega (arith, face-used _ _ _ (was-open _ _ _ _ _ _ (c .before .before .before .before .before .pre .1 .0) .face), c .before .before .before .before .before .pre .0 .below, c .before .before .before .before .before .pre .0 .vertices), omega (arith, face-turn _ _ _ false (was-open _ _ _ _ _ _ (c .before .before .before .before .before .pre .1 .0) .face), c .before .before .before .before .before .pre .0 .opposites))
 
-sub-write-part-3 : tie.Need-sub-write-part-3
-sub-write-part-3 c = omega (arith, was-open _ _ _ _ _ _ (c .before .before .before .before .before .before .before .before .before .before .pre .1 .0) .bound)
+previous-requires : tie.Need-previous-requires
+previous-requires c κs = omega (arith, face-used _ _ _ (was-open _ _ _ _ _ _ (c .before .before .before .before .before .before .pre .1 .0) .face), c .before .before .before .before .before .before .pre .0 .below, c .before .before .before .before .before .before .pre .0 .vertices)
 
-write-part-requires-2 : tie.Need-write-part-requires-2
-write-part-requires-2 c κs = let k = was-open _ _ _ _ _ _ (c .before .before .before .before .before .before .before .before .before .before .before .pre .1 .0) in (omega (arith, k .start, c .before .before .before .before .before .before .before .before .before .before .before .pre .0), omega (arith, k .bound, c .before .before .before .before .before .before .before .before .before .before .before .pre .0))
+write-side-requires : tie.Need-write-side-requires
+write-side-requires c κs = (c .before .before .before .before .before .before .before .before .pre .0 .below, omega (arith, c .before .before .before .before .before .before .before .before .pre .1 .1), rw (c .before .previous .ensures .0) (left-inside _ _ _ _ _ (c .before .before .before .before .before .before .before .before .pre .0) (was-open _ _ _ _ _ _ (c .before .before .before .before .before .before .before .before .pre .1 .0) .face) _ (was-open _ _ _ _ _ _ (c .before .before .before .before .before .before .before .before .pre .1 .0) .count)))
+
+cast-write-side : tie.Need-cast-write-side
+cast-write-side c = search needs
+
+sub-write-side : tie.Need-sub-write-side
+sub-write-side c = search needs
+
+write-side-requires-2 : tie.Need-write-side-requires-2
+write-side-requires-2 c κs = (c .before .before .before .before .before .before .before .before .before .before .before .before .pre .0 .below, omega (arith, c .before .before .before .before .before .before .before .before .before .before .before .before .pre .1 .1, c .before .before .before .before .before .before .before .extra .ensures), right-inside _ _ _ _ _ (c .before .before .before .before .before .before .before .before .before .before .before .before .pre .0) (was-open _ _ _ _ _ _ (c .before .before .before .before .before .before .before .before .before .before .before .before .pre .1 .0) .face) (twice (c .before .before .before .before .before .before .before .before .before .before .before .before .args .kind)) (c .before .before .before .before .before .before .before .before .before .before .before .before .args .r) (was-open _ _ _ _ _ _ (c .before .before .before .before .before .before .before .before .before .before .before .before .pre .1 .0) .count′) _ _ (omega (arith, c .before .before .before .before .before .before .before .extra .ensures)) (c .before .before .before .before .before .before .right-from .ensures))
 
 same-length : tie.Need-same-length
 same-length c = search needs
 
 returns : tie.Need-returns
-returns c = open-done _ _ _ _ _ _ _ _ _ _ (was-open _ _ _ _ _ _ (c .before .before .before .before .before .before .before .before .before .before .before .before .before .before .pre .1 .0)) (c .before .before .before .before .before .before .before .before .before .extra .ensures) _ _ _ _ _ (c .before .before .before .before .twice .ensures) refl refl refl (omega (arith, c .before .before .before .before .before .before .before .before .before .before .before .before .before .before .pre .1 .1, c .before .before .before .before .before .before .before .before .before .extra .ensures)) refl (c .before .before .before .before .before .before .before .write-part .ensures) (c .before .before .write-part2 .ensures)
+returns c = open-done _ _ _ _ _ _ _ _ _ _ (was-open _ _ _ _ _ _ (c .before .before .before .before .before .before .before .before .before .before .before .before .before .before .before .pre .1 .0)) (c .before .before .before .before .before .before .before .before .before .before .extra .ensures) _ (c .before .before .before .before .before .before .before .before .before .before .before .before .before .before .before .pre .0) _ _ _ _ _ refl refl refl (omega (arith, c .before .before .before .before .before .before .before .before .before .before .before .before .before .before .before .pre .1 .1, c .before .before .before .before .before .before .before .before .before .before .extra .ensures)) refl (c .before .before .before .before .before .before .before .before .before .right-from .ensures) (omega arith) (rw (← c .before .before .before .before .before .before .before .before .previous .ensures .0) (c .before .before .before .before .before .before .write-side .ensures)) (c .before .before .write-side2 .ensures)
 
 pub write-open-spec : {M : Type 1} → statement M
 write-open-spec =
@@ -57,13 +65,13 @@ write-open-spec =
     add-seen-2
     extra-requires
     add-m
-    sub-write-part
-    write-part-requires
-    twice-requires
     add-i
     cast-i
-    sub-write-part-2
-    sub-write-part-3
-    write-part-requires-2
+    right-from-requires
+    previous-requires
+    write-side-requires
+    cast-write-side
+    sub-write-side
+    write-side-requires-2
     same-length
     returns)
