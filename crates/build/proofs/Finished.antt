@@ -19,12 +19,13 @@ use Rattle.table.specs.Table.{Table, Live, LiveVertex, Shaped, maxVertices}
 use Rattle.table.specs.Rules.{WellFormed}
 use Rattle.fan.proofs.Fan.{Left, Conn, Linked, conn-fan}
 use Rattle.fan.proofs.Spread.{Settled}
-use Rattle.build.specs.Build.{Kept, Shared, give, left, corners, vertices, laid, allFinite, isolated, ringOf, done, spread}
+use Rattle.ring.specs.Ring.{ring}
+use Rattle.ring.proofs.Exact.{ring-exact}
+use Rattle.build.specs.Build.{Kept, Shared, give, left, corners, vertices, laid, allFinite, isolated, done, spread}
 use Rattle.build.proofs.Grow.{Paired, paired-linked}
 use Rattle.build.proofs.Ready.{Ready}
 use Rattle.build.proofs.Folded.{and-l, and-r}
-use Rattle.build.proofs.Settle.{Whole, Pass, Past, early, late, pass-all}
-use Rattle.build.proofs.Spun.{ring-exact}
+use Rattle.build.proofs.Settle.{Whole, Exact, Pass, Past, early, late, pass-all}
 
 -- ---- numbers stay finite
 
@@ -193,7 +194,10 @@ module _ (rc rv nv : ℕ) (points : List Float) (k : Kept) (R : Ready nv rc rv k
   L : Linked (λ d. d < n) opp (λ d. getD (k .cv) d 0)
   L = paired-linked (R .paired)
 
-  first : Pass n rc rv opp (ringOf (k .co) n) (R .fits) (ring-exact (k .co) n _ L) nv 0 s₀
+  E : Exact n opp (ring (k .co) n)
+  E = ring-exact (k .co) n L (λ d h. h)
+
+  first : Pass n rc rv opp (ring (k .co) n) (R .fits) E nv 0 s₀
   unfolding Settled
   first =
       record {
@@ -202,14 +206,14 @@ module _ (rc rv nv : ℕ) (points : List Float) (k : Kept) (R : Ready nv rc rv k
         grown = omega arith;
       }
     where
-      none : (u : ℕ) → Past n rc rv opp (ringOf (k .co) n) (R .fits) (ring-exact (k .co) n _ L) nv 0 u → getD (k .vc) u absent ≢ absent
+      none : (u : ℕ) → Past n rc rv opp (ring (k .co) n) (R .fits) E nv 0 u → getD (k .vc) u absent ≢ absent
           → (d : ℕ) → d < n → getD (k .cv) d 0 ≡ u → Conn (Left (λ x. x < n) opp) (getD (k .vc) u absent) d
       none u (early h) t d l e = absurd (omega arith)
       none u (late h) t d l e = absurd (omega (arith, R .below d l))
 
   module _ (fits : s .nv ≤ rv) where
-    last : Pass n rc rv opp (ringOf (k .co) n) (R .fits) (ring-exact (k .co) n _ L) nv nv s
-    last = pass-all n rc rv opp (ringOf (k .co) n) (R .fits) (ring-exact (k .co) n _ L) nv nv 0 s₀ (omega arith) (λ _. first) fits
+    last : Pass n rc rv opp (ring (k .co) n) (R .fits) E nv nv s
+    last = pass-all n rc rv opp (ring (k .co) n) (R .fits) E nv nv 0 s₀ (omega arith) (λ _. first) fits
 
     W : Whole n rc rv opp s
     W = last .whole
@@ -250,12 +254,12 @@ module _ (rc rv nv : ℕ) (points : List Float) (k : Kept) (R : Ready nv rc rv k
         by (inr q) = q
 
     numbers : AllFinite (s .vp)
-    numbers = vertices-finite (ringOf (k .co) n) n nv 0 s₀ (laid-finite rv points F)
+    numbers = vertices-finite (ring (k .co) n) n nv 0 s₀ (laid-finite rv points F)
 
-    past : (u : ℕ) → Past n rc rv opp (ringOf (k .co) n) (R .fits) (ring-exact (k .co) n _ L) nv nv u
+    past : (u : ℕ) → Past n rc rv opp (ring (k .co) n) (R .fits) E nv nv u
     past u = by (decLt u nv)
       where
-        by : Dec (u < nv) → Past n rc rv opp (ringOf (k .co) n) (R .fits) (ring-exact (k .co) n _ L) nv nv u
+        by : Dec (u < nv) → Past n rc rv opp (ring (k .co) n) (R .fits) E nv nv u
         by (yes h) = early h
         by (no h) = late (omega arith)
 
@@ -295,6 +299,6 @@ module _ (rc rv nv : ℕ) (points : List Float) (k : Kept) (R : Ready nv rc rv k
           vertexCornerRoom =
               W .vc-length ∙ sym (isolated-length (s .vc) (s .nv) 0 (replicate rv 0) ∙ length-replicate {0} {A = ℕ} rv 0);
           vertexPointRoom =
-              vertices-long (ringOf (k .co) n) n nv 0 s₀ ∙ laid-long rv points long
+              vertices-long (ring (k .co) n) n nv 0 s₀ ∙ laid-long rv points long
               ∙ ap (λ (x : ℕ). 3 * x) (sym (isolated-length (s .vc) (s .nv) 0 (replicate rv 0) ∙ length-replicate {0} {A = ℕ} rv 0));
         }

@@ -8,10 +8,11 @@ use lib.Dec.{eqb, ltb}
 use lib.Ieee.{Float}
 use lib.Ieee.Scale.{finite}
 use lib.ListN.{length, set, replicate}
-use Rattle.corner.specs.Corner.{absent, next, previous, turn}
-use Rattle.table.specs.Slots.{vertexAt, oppositeAt, cornerAt, nought, pointAt, withPoint, paired, relabel, three}
+use Rattle.corner.specs.Corner.{absent, next, previous}
+use Rattle.table.specs.Slots.{vertexAt, cornerAt, nought, pointAt, withPoint, paired, relabel, three}
 use Rattle.table.specs.Table.{Table, table, cornerRoom, vertexRoom, shaped, Shaped}
 use Rattle.table.specs.Rules.{WellFormed}
+use Rattle.ring.specs.Ring.{ring}
 
 -- What a build answers, how many faces it skipped, and the table that it leaves.
 pub record Outcome : Type 0 where
@@ -121,36 +122,6 @@ faces nv room s (a ∷ []) = go s
 faces nv room s (a ∷ b ∷ []) = go s
 faces nv room s (a ∷ b ∷ c ∷ fs) = onStep (face nv room s a b c) (λ t. faces nv room t fs)
 
--- ---- the fan of a corner, in the order of the ring lists. Every corner below the count is live here, so the walk reads opposites
--- alone.
-
--- one side of a walk: the corners after the first, and whether it ended at a border
-pub record Side : Type 0 where
-  pub visits : List ℕ
-  pub border : Bool
-
-abbrev pub stop : Bool → Side
-stop b = record { visits = []; border = b }
-
-abbrev pub more : ℕ → Side → Side
-more d s = record { visits = d ∷ s .visits; border = s .border }
-
--- the rest of a walk from c that began at c₀, with so many visits left
-unfoldable pub side : Bool → List ℕ → ℕ → ℕ → ℕ → Side
-side left co c₀ zero c = stop false
-side left co c₀ (suc n) c =
-    let o = oppositeAt co (turn left c) in
-    let d = turn left o in
-    let r = side left co c₀ n d in
-    cond (eqb o absent) (stop true) (cond (eqb d c₀) (stop false) (more d r))
-
--- the corner, those to its left and, if a border was met, those to its right
-unfoldable pub ringOf : List ℕ → ℕ → ℕ → List ℕ
-ringOf co n c =
-    let l = side true co c n c in
-    let r = side false co c n c in
-    cond (l .border) ((c ∷ l .visits) ++ r .visits) (c ∷ l .visits)
-
 -- ---- duplicates
 
 -- What they change: the corners' vertices, the vertices' corners and points, and the number of vertices. It may pass the room: writes
@@ -165,12 +136,13 @@ abbrev pub mem : ℕ → List ℕ → Bool
 mem d [] = false
 mem d (x ∷ xs) = eqb d x || mem d xs
 
-module _ (ring : ℕ → List ℕ) where
+-- `fan` gives the corners of the fan of a corner
+module _ (fan : ℕ → List ℕ) where
   -- "a new vertex at the same point takes the least of them and its fan": at v's point, the corner c
   unfoldable pub give : ℕ → ℕ → Shared → Shared
   give v c s =
       record {
-        cv = relabel (ring c) (s .nv) (s .cv);
+        cv = relabel (fan c) (s .nv) (s .cv);
         vc = set (s .vc) (s .nv) c;
         vp = withPoint (s .vp) (s .nv) (pointAt (s .vp) v);
         nv = s .nv + 1;
@@ -178,7 +150,7 @@ module _ (ring : ℕ → List ℕ) where
 
   -- c is a corner of v outside the fan of v's corner
   unfoldable pub left : ℕ → ℕ → Shared → Bool
-  left v c s = eqb (vertexAt (s .cv) c) v && not (mem c (ring (cornerAt (s .vc) v)))
+  left v c s = eqb (vertexAt (s .cv) c) v && not (mem c (fan (cornerAt (s .vc) v)))
 
   -- "while corners are left": k corners from c on, ascending. One that is still left when its turn comes is the least of those left.
   unfoldable pub corners : ℕ → ℕ → ℕ → Shared → Shared
@@ -190,9 +162,10 @@ module _ (ring : ℕ → List ℕ) where
   vertices nc zero v s = s
   vertices nc (suc k) v s = vertices nc k (suc v) (cond (eqb (cornerAt (s .vc) v) absent) s (corners v nc 0 s))
 
+-- "Each other vertex, ascending": every corner below the count is live here, so the fans are the rings by opposites alone
 abbrev pub spread : ℕ → ℕ → List Float → Kept → Shared
 spread rv nv points k =
-    vertices (ringOf (k .co) (k .nc)) (k .nc) nv 0 (record { cv = k .cv; vc = k .vc; vp = laid rv points; nv = nv })
+    vertices (ring (k .co) (k .nc)) (k .nc) nv 0 (record { cv = k .cv; vc = k .vc; vp = laid rv points; nv = nv })
 
 -- "a vertex without a corner is marked deleted": k vertices from i on. A new vertex has a corner, so it is the same before the
 -- duplicates and after them.

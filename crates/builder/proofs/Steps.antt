@@ -16,11 +16,12 @@ use Rattle.table.specs.Table.{table, shapedBy, Shaped}
 use Rattle.table.proofs.Shape.{shaped-true}
 use Rattle.table.specs.declared.Counts.{Counts}
 use Rattle.fan.proofs.Fan.{Linked}
-use Rattle.build.specs.Build.{Kept, Step, refuse, go, faces, ringOf, Shared, vertices, Outcome, refused, start, laid, allFinite, isolated, done, spread, finish, build}
+use Rattle.ring.specs.Ring.{ring}
+use Rattle.ring.proofs.Exact.{ring-exact}
+use Rattle.build.specs.Build.{Kept, Step, refuse, go, faces, Shared, vertices, Outcome, refused, start, laid, allFinite, isolated, done, spread, finish, build}
 use Rattle.build.proofs.Grow.{paired-linked}
 use Rattle.build.proofs.Ready.{Ready}
 use Rattle.build.proofs.Folded.{Fine, faces-ready, start-ready}
-use Rattle.build.proofs.Spun.{ring-exact}
 use Rattle.build.proofs.Settle.{Whole}
 use Rattle.builder_faces.specs.Steps.{kept, stepped}
 use Rattle.builder_fans.specs.Chains.{shared, Ended, Threads, threads, threaded, marked, settled}
@@ -40,8 +41,8 @@ begun-long cv co cm vc vm vp n count room skipped G = ap length (G .flags) ∙ l
 
 module _ (rc rv nv n sk r : ℕ) (cv co vc cm cm₁ cm₂ vm vm₂ cv′ vc′ : List ℕ) (vp vp′ : List Float) (points : List Float)
     (G : Begun cv co cm vc vm vp n nv rv sk) (long : length cm ≡ rc) (lay : vp ≡ laid rv points)
-    (m : cm₁ ≡ marked (ringOf co n) vc nv 0 cm) (f : threads cm₂ vm₂ ≡ threaded cv n (threads cm₁ vm))
-    (E : Ended rv (settled (ringOf co n) cm₂ vm₂ n nv 0 (shared cv vc vp nv)) cv′ vc′ vp′ r) where
+    (m : cm₁ ≡ marked (ring co n) vc nv 0 cm) (f : threads cm₂ vm₂ ≡ threaded cv n (threads cm₁ vm))
+    (E : Ended rv (settled (ring co n) cm₂ vm₂ n nv 0 (shared cv vc vp nv)) cv′ vc′ vp′ r) where
   R : Ready nv rc rv (kept cv co vc n sk)
   R = subst (λ (x : ℕ). Ready nv x rv (kept cv co vc n sk)) long (G .ready)
 
@@ -54,15 +55,15 @@ module _ (rc rv nv n sk r : ℕ) (cv co vc cm cm₁ cm₂ vm vm₂ cv′ vc′ :
   blank-marks : cm ≡ replicate rc 0
   blank-marks = G .marks ∙ ap (λ (x : ℕ). replicate x 0) long
 
-  chains : threads cm₂ vm₂ ≡ threaded cv n (threads (marked (ringOf co n) vc nv 0 (replicate rc 0)) (replicate rv 0))
-  chains = f ∙ ap (λ (x : List ℕ). threaded cv n (threads x vm)) (m ∙ ap (marked (ringOf co n) vc nv 0) blank-marks)
-      ∙ ap (λ (x : List ℕ). threaded cv n (threads (marked (ringOf co n) vc nv 0 (replicate rc 0)) x)) (G .flags)
+  chains : threads cm₂ vm₂ ≡ threaded cv n (threads (marked (ring co n) vc nv 0 (replicate rc 0)) (replicate rv 0))
+  chains = f ∙ ap (λ (x : List ℕ). threaded cv n (threads x vm)) (m ∙ ap (marked (ring co n) vc nv 0) blank-marks)
+      ∙ ap (λ (x : List ℕ). threaded cv n (threads (marked (ring co n) vc nv 0 (replicate rc 0)) x)) (G .flags)
 
-  same : settled (ringOf co n) cm₂ vm₂ n nv 0 (shared cv vc vp nv) ≡ spread rv nv points (kept cv co vc n sk)
+  same : settled (ring co n) cm₂ vm₂ n nv 0 (shared cv vc vp nv) ≡ spread rv nv points (kept cv co vc n sk)
   same =
-      ap (λ (t : Threads). settled (ringOf co n) (t .link) (t .head) n nv 0 (shared cv vc vp nv)) chains
-      ∙ fast n rc rv nv (λ d. getD co d absent) (ringOf co n) (ring-exact co n (λ d. getD cv d 0) L) (shared cv vc vp nv) W (R .fits) refl (R .vertices)
-      ∙ ap (λ (p : List Float). vertices (ringOf co n) n nv 0 (shared cv vc p nv)) lay
+      ap (λ (t : Threads). settled (ring co n) (t .link) (t .head) n nv 0 (shared cv vc vp nv)) chains
+      ∙ fast n rc rv nv (λ d. getD co d absent) (ring co n) (ring-exact co n L (λ d h. h)) (shared cv vc vp nv) W (R .fits) refl (R .vertices)
+      ∙ ap (λ (p : List Float). vertices (ring co n) n nv 0 (shared cv vc p nv)) lay
 
   pub finish-full : rv < r → refused rc rv 5 ≡ finish rc rv nv points (go (kept cv co vc n sk))
   unfolding finish
