@@ -22,8 +22,8 @@ use Rattle.fan.proofs.Spread.{Settled}
 use Rattle.ring.specs.Ring.{ring}
 use Rattle.ring.proofs.Exact.{ring-exact}
 use Rattle.build.specs.Build.{Kept, Shared, give, left, corners, vertices, laid, allFinite, isolated, done, spread}
-use Rattle.build.proofs.Grow.{Paired, paired-linked}
-use Rattle.build.proofs.Ready.{Ready}
+use Rattle.build.specs.Ready.{Ready}
+use Rattle.build.proofs.Grow.{paired-linked}
 use Rattle.build.proofs.Folded.{and-l, and-r}
 use Rattle.build.proofs.Settle.{Whole, Exact, Pass, Past, early, late, pass-all}
 

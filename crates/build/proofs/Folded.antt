@@ -9,9 +9,10 @@ use borrow.Author.Tests.{eqb-true, eqb-false, eq-eqb, ltb-true, ltb-false, not-f
 use lib.Dec.{eqb, ltb}
 use lib.ListN.{length, getD, set, length-set, replicate, length-replicate}
 use Rattle.corner.specs.Corner.{absent}
+use Rattle.table.specs.Table.{maxCorners}
 use Rattle.build.specs.Build.{Kept, start, found, holds, skip, grow, Step, refuse, go, known, repeated, taken, face, onStep, faces}
-use Rattle.build.proofs.Grow.{Paired}
-use Rattle.build.proofs.Ready.{Ready, grow-ready, skip-ready}
+use Rattle.build.specs.Ready.{Paired, Ready}
+use Rattle.build.proofs.Ready.{grow-ready, skip-ready}
 
 -- what a step leaves is ready, and a refusal has a number that isn't 0
 abbrev pub Leaves : (Kept → Type 0) → Step → Type 0
@@ -80,7 +81,7 @@ getD-replicate zero i x = refl
 getD-replicate (suc n) zero x = refl
 getD-replicate (suc n) (suc i) x = getD-replicate n i x
 
-pub start-ready : (nv room vroom : ℕ) → nv ≤ vroom → room ≤ 196605 → Ready nv room vroom (start room vroom)
+pub start-ready : (nv room vroom : ℕ) → nv ≤ vroom → room ≤ maxCorners → Ready nv room vroom (start room vroom)
 start-ready nv room vroom h m = record {
   cv-length = length-replicate {0} {A = ℕ} room 0;
   co-length = length-replicate {0} {A = ℕ} room absent;

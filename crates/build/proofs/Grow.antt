@@ -8,23 +8,12 @@ use Rattle.corner.specs.Corner.{next, previous, absent}
 use Rattle.corner.proofs.Turns.{next-next, next-previous, previous-next, next-below, next-injective, next-differs, previous-differs, next-not-previous, InFace, itself, after, before, in-face, next-face, next-three, previous-previous}
 use Rattle.table.specs.Rules.{Mate}
 use Rattle.fan.proofs.Fan.{Linked, linked, mate-sym}
+use Rattle.build.specs.Ready.{Same, Paired}
 
--- the corners d and k have the same directed edge; the edge of d runs the other way
-pub record Same (f g : ℕ → ℕ) (d k : ℕ) : Type 0 where
-  pub tail : f (next d) ≡ g (next k)
-  pub head : f (previous d) ≡ g (previous k)
-
+-- the edge of d runs the other way than that of k
 pub record Reversed (f g : ℕ → ℕ) (d k : ℕ) : Type 0 where
   pub tail : f (next d) ≡ g (previous k)
   pub head : f (previous d) ≡ g (next k)
-
--- what the faces so far have: R1 to R4 where all corners below n are live, and each directed edge once
-pub record Paired (n : ℕ) (opp vtx : ℕ → ℕ) : Type 0 where
-  pub thirds : n % 3 ≡ 0
-  pub small : n ≤ absent
-  pub differ : (c : ℕ) → c < n → vtx c ≢ vtx (next c)
-  pub mate : (c : ℕ) → c < n → opp c ≢ absent → Mate (λ d. d < n) opp vtx c (opp c)
-  pub once : (c d : ℕ) → c < n → d < n → Same vtx vtx c d → c ≡ d
 
 pub paired-linked : {n : ℕ} {opp vtx : ℕ → ℕ} → Paired n opp vtx → Linked (λ d. d < n) opp vtx
 paired-linked {n} P = linked (λ c h e. absurd (omega (arith, P .small))) (λ c h. next-below c n (P .thirds) h) (P .differ) (P .mate)

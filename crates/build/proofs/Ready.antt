@@ -15,8 +15,9 @@ use Rattle.corner.proofs.Turns.{next-first, next-second, next-last, previous-fi
 use Rattle.fan.proofs.Redirect.{at, at-same, at-other, Seen, set-seen}
 use Rattle.table.specs.Slots.{paired}
 use Rattle.build.specs.Build.{edgeAt, findEdge, Kept, found, holds, skip, grow, Step, refuse, go, known, repeated, taken, face, onStep, faces}
+use Rattle.build.specs.Ready.{Same, Paired, Ready}
 use Rattle.build.proofs.Find.{Edge, Finding, none, some, finding}
-use Rattle.build.proofs.Grow.{Same, Reversed, Paired, New, Grown, grown-paired}
+use Rattle.build.proofs.Grow.{Reversed, New, Grown, grown-paired}
 use Rattle.build.proofs.Meet.{Link, bare, linked, Place, apart, met, meet-grown}
 
 -- two writes that pair a with b
@@ -31,19 +32,6 @@ vtx s d = getD (s .cv) d 0
 
 abbrev pub corner : Kept → ℕ → ℕ
 corner s v = getD (s .vc) v absent
-
--- what holds while faces are added
-pub record Ready (nv room vroom : ℕ) (s : Kept) : Type 0 where
-  pub cv-length : length (s .cv) ≡ room
-  pub co-length : length (s .co) ≡ room
-  pub vc-length : length (s .vc) ≡ vroom
-  pub vertices : nv ≤ vroom
-  pub most : room ≤ 196605
-  pub fits : s .nc ≤ room
-  pub paired : Paired (s .nc) (opp s) (vtx s)
-  pub below : (c : ℕ) → c < s .nc → vtx s c < nv
-  pub home : (v : ℕ) → (corner s v ≡ absent) ⊎ ((corner s v < s .nc) × (vtx s (corner s v) ≡ v))
-  pub has : (c : ℕ) → c < s .nc → corner s (vtx s c) ≢ absent
 
 -- which corner of the new face
 pub data Trio (n k : ℕ) : Type 0 where

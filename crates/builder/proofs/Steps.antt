@@ -19,8 +19,8 @@ use Rattle.fan.proofs.Fan.{Linked}
 use Rattle.ring.specs.Ring.{ring}
 use Rattle.ring.proofs.Exact.{ring-exact}
 use Rattle.build.specs.Build.{Kept, Step, refuse, go, faces, Shared, vertices, Outcome, refused, start, laid, allFinite, isolated, done, spread, finish, build}
+use Rattle.build.specs.Ready.{Ready}
 use Rattle.build.proofs.Grow.{paired-linked}
-use Rattle.build.proofs.Ready.{Ready}
 use Rattle.build.proofs.Folded.{Fine, faces-ready, start-ready}
 use Rattle.build.proofs.Settle.{Whole}
 use Rattle.builder_faces.specs.Steps.{kept, stepped}

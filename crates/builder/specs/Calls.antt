@@ -9,7 +9,7 @@ use Rattle.table.specs.Slots.{nought, blanked}
 use Rattle.table.specs.Table.{table, maxCorners, maxVertices}
 use Rattle.table.specs.declared.Counts.{Counts}
 use Rattle.build.specs.Build.{Outcome}
-use Rattle.build.proofs.Ready.{Ready}
+use Rattle.build.specs.Ready.{Ready}
 use Rattle.builder_faces.specs.Steps.{kept}
 
 abbrev pub outcome : ℕ → ℕ → List ℕ → List ℕ → List ℕ → List ℕ → List ℕ → List Float → ℕ → ℕ → Outcome
