@@ -4,10 +4,10 @@ ghost use mathlib.Core.Bool.{cond};
 ghost use mathlib.Core.List.{List};
 ghost use lib.Ieee.{Float};
 ghost use lib.ListN.{length};
-ghost use Rattle.table.specs.Table.{table};
-ghost use Rattle.build.specs.Build.{go, build as buildOf, finish as finishOf, faces as facesOf, start, laid};
+ghost use Rattle.table.specs.Table.{table, Shaped};
+ghost use Rattle.build.specs.Build.{blank, go, build as buildOf, finish as finishOf, faces as facesOf, start, laid};
 ghost use Rattle.builder_faces.specs.Steps.{kept};
-ghost use Rattle.builder.specs.Calls.{Begun, Cleared, Fresh, outcome};
+ghost use Rattle.builder.specs.Calls.{Begun, Fresh, outcome};
 use table::Counts;
 
 // The answer, how many faces were skipped, and how much of the table is used.
@@ -26,8 +26,9 @@ fn clear(
     vm: &mut [u32],
     vp: &mut [f32],
 ) -> Counts
-    ensures { λ r. ⌜ Cleared (now (cv .entry)) (now (co .entry)) (now (cm .entry)) (now (vc .entry)) (now (vm .entry)) (now (vp .entry))
-        (now (cv .exit)) (now (co .exit)) (now (cm .exit)) (now (vc .exit)) (now (vm .exit)) (now (vp .exit)) r ⌝ }
+    requires { ⌜ Shaped (table (now cv) (now co) (now cm) (now vc) (now vm) (now vp) 0 0) ⌝ }
+    ensures { λ r. ⌜ table (now (cv .exit)) (now (co .exit)) (now (cm .exit)) (now (vc .exit)) (now (vm .exit)) (now (vp .exit)) (r .vertices) (r .corners)
+        ≡ blank (length (now (cm .entry))) (length (now (vm .entry))) ⌝ }
 {
     table::blank(cv, co, cm, vc, vm, vp);
     Counts {
