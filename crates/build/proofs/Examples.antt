@@ -4,10 +4,10 @@ use mathlib.Core.List.{List, [], _∷_}
 use lib.Ieee.{Float, nan, ofBits}
 use Rattle.corner.specs.Corner.{absent, next, previous}
 use Rattle.table.specs.Slots.{nought}
-use Rattle.table.specs.Table.{Table, table, shapedBy}
+use Rattle.table.specs.Table.{Table, table, blank, shapedBy}
 use Rattle.table.specs.Meshes.{one, two, three, meshA, meshB, meshT}
 use Rattle.ring.specs.Ring.{side, ring}
-use Rattle.build.specs.Build.{Outcome, blank, refused, laid, edgeAt, findEdge, grow, face, faces, give, left, corners, vertices, isolated, finish, build}
+use Rattle.build.specs.Build.{Outcome, built, refused, laid, edgeAt, findEdge, grow, face, faces, give, left, corners, vertices, isolated, finish, build}
 
 -- vertex v at (v, 0, 0)
 abbrev threePoints : List Float
@@ -18,7 +18,7 @@ fourPoints = nought ∷ nought ∷ nought ∷ one ∷ nought ∷ nought ∷ two 
 
 -- nothing skipped
 abbrev made : Table → Outcome
-made t = record { answer = 0; skipped = 0; result = t }
+made t = built 0 0 t
 
 -- "A: points 0 to 2, face 0 1 2."
 pub built-A : build (blank 3 3) threePoints (0 ∷ 1 ∷ 2 ∷ []) ≡ made meshA

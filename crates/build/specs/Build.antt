@@ -10,7 +10,7 @@ use lib.Ieee.Scale.{finite}
 use lib.ListN.{length, set, replicate}
 use Rattle.corner.specs.Corner.{absent, next, previous}
 use Rattle.table.specs.Slots.{vertexAt, cornerAt, nought, pointAt, withPoint, paired, relabel, three}
-use Rattle.table.specs.Table.{Table, table, cornerRoom, vertexRoom, shaped, Shaped}
+use Rattle.table.specs.Table.{Table, table, blank, cornerRoom, vertexRoom, shaped, Shaped}
 use Rattle.table.specs.Rules.{WellFormed}
 use Rattle.ring.specs.Ring.{ring}
 
@@ -20,14 +20,13 @@ pub record Outcome : Type 0 where
   pub skipped : ℕ
   pub result : Table
 
--- "both counts 0 and every slot blank: vertex 0, opposite and corner u32::MAX, numbers 0.0, marks 0"
-abbrev pub blank : (rc rv : ℕ) → Table
-blank rc rv =
-    table (replicate rc 0) (replicate rc absent) (replicate rc 0) (replicate rv absent) (replicate rv 0) (replicate (3 * rv) nought) 0 0
+-- ... of these three
+abbrev pub built : ℕ → ℕ → Table → Outcome
+built a skipped t = record { answer = a; skipped = skipped; result = t }
 
 -- "A refusal other than 1 leaves" the blank table. "A refused build reports 0 skipped."
 abbrev pub refused : (rc rv : ℕ) → ℕ → Outcome
-refused rc rv a = record { answer = a; skipped = 0; result = blank rc rv }
+refused rc rv a = built a 0 (blank rc rv)
 
 -- ---- points
 
@@ -50,9 +49,16 @@ pub record Kept : Type 0 where
   pub nc : ℕ
   pub skipped : ℕ
 
--- no corner yet
+-- no corner yet: the parts of a blank table
 abbrev pub start : (rc rv : ℕ) → Kept
-start rc rv = record { cv = replicate rc 0; co = replicate rc absent; vc = replicate rv absent; nc = 0; skipped = 0 }
+start rc rv =
+    record {
+      cv = blank rc rv .cornerVertex;
+      co = blank rc rv .cornerOpposite;
+      vc = blank rc rv .vertexCorner;
+      nc = 0;
+      skipped = 0;
+    }
 
 -- "The edge opposite a corner runs from next's vertex to previous's vertex": does that of k run from x to y?
 unfoldable pub edgeAt : List ℕ → ℕ → ℕ → ℕ → Bool
@@ -178,12 +184,8 @@ isolated vc (suc k) i m = isolated vc k (suc i) (cond (eqb (cornerAt vc i) absen
 -- the corner slots of k as they are, with the vertices of s
 abbrev pub done : (rc rv : ℕ) → Kept → Shared → Outcome
 done rc rv k s =
-    record {
-      answer = 0;
-      skipped = k .skipped;
-      result =
-          table (s .cv) (k .co) (replicate rc 0) (s .vc) (isolated (s .vc) (s .nv) 0 (replicate rv 0)) (s .vp) (s .nv) (k .nc);
-    }
+    built 0 (k .skipped)
+    (table (s .cv) (k .co) (replicate rc 0) (s .vc) (isolated (s .vc) (s .nv) 0 (replicate rv 0)) (s .vp) (s .nv) (k .nc))
 
 -- "If the duplicates don't fit, the build is refused (5)."
 unfoldable pub finish : (rc rv nv : ℕ) → List Float → Step → Outcome
@@ -201,7 +203,7 @@ build t points fs =
     cond (shaped t && eqb (length points % 3) 0)
     (cond (ltb rv nv) (refused rc rv 5)
     (cond (allFinite points) (finish rc rv nv points (faces nv rc (start rc rv) fs)) (refused rc rv 4)))
-    (record { answer = 1; skipped = 0; result = t })
+    (built 1 0 t)
 
 -- The promise, for every input: a finished build leaves a well-formed table.
 abbrev pub Finished : Outcome → Type 0

@@ -1,24 +1,24 @@
 -- The steps of a call, put together to the build. Assumes nothing.
 use mathlib.Core.Path.{_≡_, refl, ap, sym, _∙_, subst}
-use mathlib.Core.Bool.{Bool, true, false, cond, not, _&&_}
+use mathlib.Core.Bool.{Bool, true, false, cond, not}
 use mathlib.Core.List.{List, _++_}
 use Prim.Native.Nat.{ℕ, zero, suc, _+_, _-_, _*_, _≤_, _<_, _%_, _/_}
 use native.Mathlib.Omega.{arith}
 use native.Mathlib.Nat.{sub-zero}
 use borrow.Author.Tests.{eq-eqb, ne-eqb, lt-ltb, le-ltb, ltb-false}
-use lib.Dec.{eqb, ltb}
+use lib.Dec.{ltb}
 use lib.Ieee.{Float}
 use lib.ListN.{length, getD, drop, replicate, length-replicate}
 use lib.Seq.{sets, sets-eq}
 use Rattle.corner.specs.Corner.{absent}
 use Rattle.table.specs.Slots.{nought, blanked}
-use Rattle.table.specs.Table.{Table, table, shapedBy, Shaped, maxVertices}
+use Rattle.table.specs.Table.{Table, table, blank, shapedBy, Shaped}
 use Rattle.table.proofs.Shape.{shaped-true}
 use Rattle.table.specs.declared.Counts.{Counts}
 use Rattle.fan.proofs.Fan.{Linked}
 use Rattle.ring.specs.Ring.{ring}
 use Rattle.ring.proofs.Exact.{ring-exact}
-use Rattle.build.specs.Build.{Kept, Step, refuse, go, faces, Shared, vertices, Outcome, blank, refused, start, laid, allFinite, isolated, done, spread, finish, build}
+use Rattle.build.specs.Build.{Kept, Step, go, faces, Shared, vertices, Outcome, built, refused, start, laid, allFinite, isolated, done, spread, finish, build}
 use Rattle.build.specs.Ready.{Ready}
 use Rattle.build.proofs.Grow.{paired-linked}
 use Rattle.build.proofs.Folded.{Fine, faces-ready, start-ready}
@@ -26,7 +26,7 @@ use Rattle.build.proofs.Settle.{Whole}
 use Rattle.builder_faces.specs.Steps.{kept, stepped}
 use Rattle.builder_fans.specs.Chains.{shared, Ended, Threads, threads, threaded, marked, settled}
 use Rattle.builder_fans.proofs.Marks.{fast}
-use Rattle.builder.specs.Calls.{outcome, Fresh, Begun}
+use Rattle.builder.specs.Calls.{Fresh, Begun}
 
 -- parts that agree, each filled with its blank, are the blank table
 pub cleared : (cv co cm vc vm cv′ co′ cm′ vc′ vm′ : List ℕ) (vp vp′ : List Float) → Shaped (table cv co cm vc vm vp 0 0)
@@ -36,7 +36,7 @@ cleared cv co cm vc vm cv′ co′ cm′ vc′ vm′ vp vp′ S e =
     rw (e .0, e .1, e .2, e .3, e .4, e .5, S .cornerVertexRoom, S .cornerOppositeRoom, S .vertexCornerRoom, S .vertexPointRoom)
 
 -- a cleared table is the refusal's
-pub made-blank : (rc rv a c v : ℕ) (t : Table) → t ≡ blank c v → c ≡ rc → v ≡ rv → record { answer = a; skipped = 0; result = t } ≡ refused rc rv a
+pub made-blank : (rc rv a c v : ℕ) (t : Table) → t ≡ blank c v → c ≡ rc → v ≡ rv → built a 0 t ≡ refused rc rv a
 made-blank rc rv a c v t e p q = rw (e, p, q)
 
 pub begun-long : (cv co cm vc vm : List ℕ) (vp : List Float) (n count room skipped : ℕ) → Begun cv co cm vc vm vp n count room skipped
@@ -91,15 +91,15 @@ module _ (rc rv nv n sk r : ℕ) (cv co vc cm cm₁ cm₂ vm vm₂ cv′ vc′ :
       rw (lt-ltb rv (spread rv nv points (kept cv co vc n sk) .nv) z)
 
   pub finish-fits : r ≤ rv → (cm₃ vm₃ : List ℕ) → cm₃ ≡ replicate rc 0 → vm₃ ≡ isolated vc′ r 0 (replicate rv 0)
-      → outcome 0 sk cv′ co cm₃ vc′ vm₃ vp′ r n ≡ finish rc rv nv points (go (kept cv co vc n sk))
+      → built 0 sk (table cv′ co cm₃ vc′ vm₃ vp′ r n) ≡ finish rc rv nv points (go (kept cv co vc n sk))
   unfolding finish
   finish-fits h cm₃ vm₃ p q = by (spread rv nv points (kept cv co vc n sk)) (E .fits h ∙ same)
     where
       by : (s : Shared) → shared cv′ vc′ vp′ r ≡ s
-          → outcome 0 sk cv′ co cm₃ vc′ vm₃ vp′ r n ≡ cond (ltb rv (s .nv)) (refused rc rv 5) (done rc rv (kept cv co vc n sk) s)
+          → built 0 sk (table cv′ co cm₃ vc′ vm₃ vp′ r n) ≡ cond (ltb rv (s .nv)) (refused rc rv 5) (done rc rv (kept cv co vc n sk) s)
       by s e =
           subst
-          (λ (t : Shared). outcome 0 sk cv′ co cm₃ vc′ vm₃ vp′ r n ≡ cond (ltb rv (t .nv)) (refused rc rv 5) (done rc rv (kept cv co vc n sk) t))
+          (λ (t : Shared). built 0 sk (table cv′ co cm₃ vc′ vm₃ vp′ r n) ≡ cond (ltb rv (t .nv)) (refused rc rv 5) (done rc rv (kept cv co vc n sk) t))
           e (rw (le-ltb rv r h, p, q))
 
 -- ---- points and faces
@@ -187,12 +187,12 @@ module _ (cv co cm vc vm : List ℕ) (vp ps : List Float) (rc rv nv : ℕ) (B : 
 
 module _ (cv co cm vc vm : List ℕ) (vp ps : List Float) (fs : List ℕ) (nv nc : ℕ) (b : Bool)
     (is : b ≡ shapedBy (length cv) (length co) (length cm) (length vc) (length vm) (length vp)) where
-  pub build-unshaped : b ≡ false → outcome 1 0 cv co cm vc vm vp nv nc ≡ build (table cv co cm vc vm vp nv nc) ps fs
+  pub build-unshaped : b ≡ false → built 1 0 (table cv co cm vc vm vp nv nc) ≡ build (table cv co cm vc vm vp nv nc) ps fs
   unfolding build
   build-unshaped e = rw (← is, e)
 
   module _ (y : b ≡ true) where
-    pub build-thirds : (length ps % 3 ≡ 0 → ⊥) → outcome 1 0 cv co cm vc vm vp nv nc ≡ build (table cv co cm vc vm vp nv nc) ps fs
+    pub build-thirds : (length ps % 3 ≡ 0 → ⊥) → built 1 0 (table cv co cm vc vm vp nv nc) ≡ build (table cv co cm vc vm vp nv nc) ps fs
     unfolding build
     build-thirds h = rw (← is, y, ne-eqb (length ps % 3) 0 h)
 
@@ -201,12 +201,12 @@ module _ (cv co cm vc vm : List ℕ) (vp ps : List Float) (fs : List ℕ) (nv nc
 
     module _ (z : length ps % 3 ≡ 0) (cv′ co′ cm′ vc′ vm′ : List ℕ) (vp′ : List Float)
         (n : Counts) (B : table cv′ co′ cm′ vc′ vm′ vp′ (n .vertices) (n .corners) ≡ blank (length cm) (length vm)) where
-      none : (a : ℕ) → outcome a 0 cv′ co′ cm′ vc′ vm′ vp′ (n .vertices) (n .corners) ≡ refused (length cm) (length vm) a
+      none : (a : ℕ) → built a 0 (table cv′ co′ cm′ vc′ vm′ vp′ (n .vertices) (n .corners)) ≡ refused (length cm) (length vm) a
       none a = made-blank (length cm) (length vm) a _ _ _ B refl refl
 
       -- 5, then 4
       module _ (t : Bool) (fin : t ≡ allFinite ps) (a : ℕ) (met : a ≡ cond (ltb (length vm) (length ps / 3)) 5 (cond (not t) 4 0)) where
-        pub build-refused : (a ≡ 0 → ⊥) → outcome a 0 cv′ co′ cm′ vc′ vm′ vp′ (n .vertices) (n .corners) ≡ build (table cv co cm vc vm vp nv nc) ps fs
+        pub build-refused : (a ≡ 0 → ⊥) → built a 0 (table cv′ co′ cm′ vc′ vm′ vp′ (n .vertices) (n .corners)) ≡ build (table cv co cm vc vm vp nv nc) ps fs
         unfolding build
         build-refused k = none a ∙ by (ltb (length vm) (length ps / 3)) t met k ∙ rw (← is, y, eq-eqb (length ps % 3) 0 z, ← fin)
           where

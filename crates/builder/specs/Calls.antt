@@ -1,16 +1,12 @@
--- What a call of the builder leaves, as an outcome of the build; and what its two inner functions find.
+-- What the two inner functions of the builder find.
 use Prim.Native.Nat.{ℕ, _*_, _≤_}
 use mathlib.Core.Path.{_≡_}
 use mathlib.Core.List.{List}
 use lib.Ieee.{Float}
 use lib.ListN.{length, replicate}
-use Rattle.table.specs.Table.{table, maxCorners, maxVertices}
-use Rattle.build.specs.Build.{Outcome, blank}
+use Rattle.table.specs.Table.{table, blank, maxCorners, maxVertices}
 use Rattle.build.specs.Ready.{Ready}
 use Rattle.builder_faces.specs.Steps.{kept}
-
-abbrev pub outcome : ℕ → ℕ → List ℕ → List ℕ → List ℕ → List ℕ → List ℕ → List Float → ℕ → ℕ → Outcome
-outcome a k cv co cm vc vm vp nv nc = record { answer = a; skipped = k; result = table cv co cm vc vm vp nv nc }
 
 -- a blank table with its points still to come, and room for them
 pub record Fresh (cv co cm vc vm : List ℕ) (vp ps : List Float) (rc rv nv : ℕ) : Type 0 where
