@@ -1,17 +1,17 @@
 -- Every face of a build, and so all of them, leave a table that is ready. Assumes nothing.
-use mathlib.Core.Path.{_≡_, refl, ap, sym, _∙_, subst}
-use mathlib.Core.Logic.{_≢_, Ne·symm, _⊎_, inl, inr}
-use mathlib.Core.Bool.{Bool, true, false, cond, not, _&&_, _||_, false≢true, true≢false}
+use mathlib.Core.Path.{_≡_, refl}
+use mathlib.Core.Logic.{_≢_, inl}
+use mathlib.Core.Bool.{Bool, true, false, cond, _&&_, _||_, false≢true, true≢false}
 use mathlib.Core.List.{List, [], _∷_}
-use Prim.Native.Nat.{ℕ, zero, suc, _+_, _≤_, _<_, _%_, _/_}
+use Prim.Native.Nat.{ℕ, zero, suc, _+_, _≤_}
 use native.Mathlib.Omega.{arith}
-use borrow.Author.Tests.{eqb-true, eqb-false, eq-eqb, ltb-true, ltb-false, not-false}
+use borrow.Author.Tests.{eqb-true, eqb-false, ltb-true, ltb-false, not-false}
 use lib.Dec.{eqb, ltb}
-use lib.ListN.{length, getD, set, length-set, replicate, length-replicate}
+use lib.ListN.{getD, replicate, length-replicate}
 use Rattle.corner.specs.Corner.{absent}
 use Rattle.table.specs.Table.{maxCorners}
 use Rattle.build.specs.Build.{Kept, start, found, holds, skip, grow, Step, refuse, go, known, repeated, taken, face, onStep, faces}
-use Rattle.build.specs.Ready.{Paired, Ready}
+use Rattle.build.specs.Ready.{Ready}
 use Rattle.build.proofs.Ready.{grow-ready, skip-ready}
 
 -- what a step leaves is ready, and a refusal has a number that isn't 0

@@ -1,5 +1,5 @@
 -- The promise of the build: where it answers 0 the table is well-formed, R1 to R6. Assumes nothing.
-use mathlib.Core.Path.{_≡_, refl, ap, sym, _∙_}
+use mathlib.Core.Path.{_≡_, refl}
 use mathlib.Core.Bool.{Bool, true, false, cond, _&&_}
 use mathlib.Core.List.{List}
 use Prim.Native.Nat.{ℕ, _*_, _≤_, _%_, _/_}
@@ -9,9 +9,8 @@ use lib.Dec.{eqb, ltb}
 use lib.Ieee.{Float}
 use lib.ListN.{length}
 use Rattle.table.specs.Table.{Table, cornerRoom, vertexRoom, shaped, Shaped, maxVertices}
-use Rattle.table.specs.Rules.{WellFormed}
 use Rattle.table.proofs.Shape.{shaped-true}
-use Rattle.build.specs.Build.{Kept, Step, refuse, go, faces, Outcome, refused, start, allFinite, done, spread, finish, build, Finished}
+use Rattle.build.specs.Build.{Step, refuse, go, faces, refused, start, allFinite, done, spread, finish, build, Finished}
 use Rattle.build.proofs.Folded.{Fine, faces-ready, start-ready, and-l, and-r}
 use Rattle.build.proofs.Finished.{done-formed, done-shaped}
 

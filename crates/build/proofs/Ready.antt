@@ -1,23 +1,20 @@
 -- R1 to R4 hold while faces are added. Assumes nothing.
-use mathlib.Core.Path.{_≡_, refl, ap, sym, _∙_, subst}
+use mathlib.Core.Path.{_≡_, refl, ap, sym, _∙_}
 use mathlib.Core.Logic.{_≢_, Ne·symm, _⊎_, inl, inr}
-use mathlib.Core.Bool.{Bool, true, false, cond, not, _&&_, _||_, false≢true, true≢false}
-use mathlib.Core.List.{List, [], _∷_}
-use Prim.Native.Nat.{ℕ, zero, suc, _+_, _≤_, _<_, _%_, _/_}
+use mathlib.Core.List.{List, []}
+use Prim.Native.Nat.{ℕ, _+_, _≤_, _<_, _%_}
 use native.Mathlib.Omega.{arith}
 use native.Mathlib.Decide.{ℕ-discrete, decLt}
-use borrow.Author.Tests.{eqb-true, eqb-false, eq-eqb, ltb-true, ltb-false}
-use lib.Dec.{eqb, ltb}
 use lib.ListN.{length, getD, set, length-set}
 use lib.Seq.{getD-set-same, getD-set-other}
 use Rattle.corner.specs.Corner.{next, previous, absent}
-use Rattle.corner.proofs.Turns.{next-first, next-second, next-last, previous-first, previous-second, previous-last, next-below, next-next}
+use Rattle.corner.proofs.Turns.{next-first, next-second, next-last, previous-first, previous-second, previous-last}
 use Rattle.fan.proofs.Redirect.{at, at-same, at-other, Seen, set-seen}
 use Rattle.table.specs.Slots.{paired}
-use Rattle.build.specs.Build.{edgeAt, findEdge, Kept, found, holds, skip, grow, Step, refuse, go, known, repeated, taken, face, onStep, faces}
+use Rattle.build.specs.Build.{Kept, found, skip, grow}
 use Rattle.build.specs.Ready.{Same, Paired, Ready}
 use Rattle.build.proofs.Find.{Edge, Finding, none, some, finding}
-use Rattle.build.proofs.Grow.{Reversed, New, Grown, grown-paired}
+use Rattle.build.proofs.Grow.{New, grown-paired}
 use Rattle.build.proofs.Meet.{Link, bare, linked, Place, apart, met, meet-grown}
 
 -- two writes that pair a with b

@@ -1,18 +1,17 @@
 -- The duplicates: after the pass every vertex's corners lie in one fan, and R1 to R4 still hold. Assumes nothing.
 use mathlib.Core.Path.{_≡_, refl, ap, sym, _∙_, subst}
-use mathlib.Core.Logic.{_≢_, Ne·symm, _⊎_, inl, inr}
+use mathlib.Core.Logic.{_≢_, _⊎_, inl, inr}
 use mathlib.Core.Bool.{Bool, true, false, cond, not, _&&_, _||_, false≢true, true≢false}
 use mathlib.Core.List.{List, [], _∷_, List·Memᴰ, List·Memᴰ·head, List·Memᴰ·tail}
-use Prim.Native.Nat.{ℕ, zero, suc, _+_, _≤_, _<_, _%_, _/_}
+use Prim.Native.Nat.{ℕ, zero, suc, _+_, _≤_, _<_}
 use native.Mathlib.Omega.{arith}
-use native.Mathlib.Decide.{ℕ-discrete, decLt}
-use borrow.Author.Tests.{eqb-true, eqb-false, eq-eqb, ltb-true, ltb-false, not-false, not-true}
-use lib.Dec.{eqb, ltb}
-use lib.ListN.{length, getD, set, length-set}
+use native.Mathlib.Decide.{ℕ-discrete}
+use borrow.Author.Tests.{eqb-true, eqb-false, eq-eqb}
+use lib.Dec.{eqb}
+use lib.ListN.{length, getD, length-set}
 use lib.Seq.{getD-set-same, getD-set-other}
-use Rattle.corner.specs.Corner.{next, previous, absent}
-use Rattle.table.specs.Slots.{relabel}
-use Rattle.fan.proofs.Fan.{Left, Conn, stay, conn-sym, conn-trans, conn-vertex, conn-live, Linked}
+use Rattle.corner.specs.Corner.{absent}
+use Rattle.fan.proofs.Fan.{Left, Conn, stay, conn-sym, conn-vertex, conn-live, Linked}
 use Rattle.fan.proofs.Relabel.{length-relabel, relabel-in, relabel-out}
 use Rattle.fan.proofs.Spread.{Settled, spread-linked, spread-new, spread-old}
 use Rattle.fan.proofs.Visits.{Covers}

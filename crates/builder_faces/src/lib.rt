@@ -3,7 +3,7 @@
 // For each face there is one pass over the kept faces, which looks for its six directed edges at once: its own three, that must not be
 // held yet, and the same three the other way round, whose corners become opposites.
 ghost use mathlib.Core.Path.{_≡_};
-ghost use Prim.Native.Nat.{ℕ, _+_, _<_, _≤_, _%_};
+ghost use Prim.Native.Nat.{_+_, _<_, _≤_, _%_};
 ghost use lib.ListN.{length, set};
 ghost use lib.Seq.{sets};
 ghost use Rattle.table.specs.Slots.{paired, three};

@@ -5,9 +5,7 @@
 // that is left, and that corner's mark the next one (as number + 2; 0 is none). So no pass goes over all corners for a vertex: the work
 // is that of the fans, of one pass over the corners and of one over the vertices.
 ghost use mathlib.Core.Path.{_≡_};
-ghost use mathlib.Core.Bool.{Bool, true, false};
-ghost use Prim.Native.Nat.{ℕ, _+_, _<_, _≤_};
-ghost use lib.ListN.{length, getD, set};
+ghost use Prim.Native.Nat.{_+_, _<_, _≤_};
 ghost use Rattle.ring.specs.Ring.{ring};
 ghost use Rattle.build.specs.Build.{give as giveOf, isolated};
 ghost use Rattle.builder_fans.specs.Chains.{shared, marked, markOf, threads, threadOf, threaded, stepOf, chain, takes, vertexOf, settled, Ended, isolateOf};
