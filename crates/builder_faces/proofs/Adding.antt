@@ -1,6 +1,6 @@
 -- The faces: the tests of one, what it leaves, and the loop over all of them. Assumes nothing.
 use mathlib.Core.Path.{_≡_, refl, ap, sym, _∙_, subst}
-use mathlib.Core.Bool.{Bool, true, false, cond}
+use mathlib.Core.Bool.{Bool, true, false, cond, not}
 use mathlib.Core.List.{List, [], _∷_}
 use Prim.Native.Nat.{ℕ, zero, suc, _+_, _-_, _≤_, _<_, _%_}
 use native.Mathlib.Omega.{arith}
@@ -60,14 +60,26 @@ module _ (nv room n k a b c : ℕ) (cv co vc : List ℕ) (f : Found) (is : f ≡
   unfolding face grow sought
   face-grows e h cv′ co′ vc′ p q r = rw (kn, re, ← same-taken, ← tb, e, le-ltb room (n + 3) h) (rw (p, q, r, is))
 
-module _ (nv room : ℕ) (s : Kept) (a b c : ℕ) where
-  pub face-unknown : known nv a b c ≡ false → refuse 2 ≡ face nv room s a b c
+-- 2, then 3
+module _ (nv a b c w : ℕ) (k t : Bool) (kn : k ≡ known nv a b c) (re : t ≡ repeated a b c) (met : w ≡ cond (not k) 2 (cond t 3 0)) where
+  pub face-wrong : (room : ℕ) (s : Kept) → (w ≡ 0 → ⊥) → stepped w s ≡ face nv room s a b c
   unfolding face
-  face-unknown e = rw e
+  face-wrong room s h = rw (← kn, ← re) (by k t met h)
+    where
+      by : (x y : Bool) → w ≡ cond (not x) 2 (cond y 3 0) → (w ≡ 0 → ⊥)
+          → stepped w s ≡ cond x (cond y (refuse 3) (cond (taken s a b c) (go (skip s)) (cond (ltb room (s .nc + 3)) (refuse 6) (go (grow s a b c))))) (refuse 2)
+      by false y e h = rw e
+      by true true e h = rw e
+      by true false e h = absurd (h e)
 
-  pub face-repeated : known nv a b c ≡ true → repeated a b c ≡ true → refuse 3 ≡ face nv room s a b c
-  unfolding face
-  face-repeated k e = rw (k, e)
+  -- neither
+  pub face-passed : w ≡ 0 → (known nv a b c ≡ true) × (repeated a b c ≡ false)
+  face-passed e = by k t kn re (sym met ∙ e)
+    where
+      by : (x y : Bool) → x ≡ known nv a b c → y ≡ repeated a b c → _≡_ {A = ℕ} (cond (not x) 2 (cond y 3 0)) 0 → (known nv a b c ≡ true) × (repeated a b c ≡ false)
+      by false y p q h = absurd (omega (arith, h))
+      by true true p q h = absurd (omega (arith, h))
+      by true false p q h = (sym p, sym q)
 
 -- ---- all faces
 

@@ -3,6 +3,7 @@
 // For each face there is one pass over the kept faces, which looks for its six directed edges at once: its own three, that must not be
 // held yet, and the same three the other way round, whose corners become opposites.
 ghost use mathlib.Core.Path.{_≡_};
+ghost use mathlib.Core.Bool.{cond};
 ghost use Prim.Native.Nat.{_+_, _<_, _≤_, _%_};
 ghost use lib.ListN.{length, set};
 ghost use lib.Seq.{sets};
@@ -173,6 +174,19 @@ fn repeated(a: u32, b: u32, c: u32) -> bool
     c == a
 }
 
+// An index that is no vertex, 2, before two equal ones, 3; or 0.
+fn refusal(unknown: bool, twice: bool) -> u32
+    ensures { λ r. ⌜ r ≡ cond unknown 2 (cond twice 3 0) ⌝ }
+{
+    if unknown {
+        return 2;
+    }
+    if twice {
+        return 3;
+    }
+    0
+}
+
 // Does a kept face have one of the face's three directed edges?
 fn taken(bc: u32, ca: u32, ab: u32) -> bool
     ensures { λ r. ⌜ r ≡ takenBy bc ca ab ⌝ }
@@ -254,16 +268,10 @@ fn add_face(
     ensures { λ r. ⌜ stepped (r .answer) (kept (now (cv .exit)) (now (co .exit)) (now (vc .exit)) (r .corners) (r .skipped))
         ≡ faceOf count room (kept (now (cv .entry)) (now (co .entry)) (now (vc .entry)) n skipped) a b c ⌝ }
 {
-    if !known(count, a, b, c) {
+    let wrong = refusal(!known(count, a, b, c), repeated(a, b, c));
+    if wrong != 0 {
         return Added {
-            answer: 2,
-            corners: n,
-            skipped: skipped,
-        };
-    }
-    if repeated(a, b, c) {
-        return Added {
-            answer: 3,
+            answer: wrong,
             corners: n,
             skipped: skipped,
         };
