@@ -17,14 +17,14 @@ use Rattle.corner.proofs.Turns.{next-below}
 use Rattle.table.specs.Slots.{nought, pointAt, withPoint}
 use Rattle.table.specs.Table.{Table, Live, LiveVertex, Shaped, maxVertices}
 use Rattle.table.specs.Rules.{WellFormed}
+use Rattle.table.proofs.Shape.{and-true}
 use Rattle.fan.proofs.Fan.{Left, Conn, Linked, conn-fan}
 use Rattle.fan.proofs.Spread.{Settled}
 use Rattle.ring.specs.Ring.{ring}
 use Rattle.ring.proofs.Exact.{ring-exact}
-use Rattle.build.specs.Build.{Kept, Shared, give, left, corners, vertices, laid, allFinite, isolated, done, spread}
+use Rattle.build.specs.Build.{SoFar, Shared, give, left, corners, vertices, laid, allFinite, isolated, done, spread}
 use Rattle.build.specs.Ready.{Ready}
 use Rattle.build.proofs.Grow.{paired-linked}
-use Rattle.build.proofs.Folded.{and-l, and-r}
 use Rattle.build.proofs.Settle.{Whole, Exact, Pass, Past, early, late, pass-all}
 
 -- ---- numbers stay finite
@@ -43,8 +43,8 @@ replicate-finite (suc n) (suc i) = replicate-finite n i
 
 append-finite : (l : List Float) (n : ℕ) → allFinite l ≡ true → AllFinite (l ++ replicate n nought)
 append-finite [] n e i = replicate-finite n i
-append-finite (x ∷ xs) n e zero = and-l (finite x) (allFinite xs) e
-append-finite (x ∷ xs) n e (suc i) = append-finite xs n (and-r (finite x) (allFinite xs) e) i
+append-finite (x ∷ xs) n e zero = and-true (finite x) (allFinite xs) e .0
+append-finite (x ∷ xs) n e (suc i) = append-finite xs n (and-true (finite x) (allFinite xs) e .1) i
 
 laid-finite : (rv : ℕ) (l : List Float) → allFinite l ≡ true → AllFinite (laid rv l)
 unfolding laid
@@ -177,7 +177,7 @@ getD-zeros (suc n) (suc i) h = getD-zeros n i (omega arith)
 
 -- ---- the table at the end
 
-module _ (rc rv nv : ℕ) (points : List Float) (k : Kept) (R : Ready nv rc rv k) (F : allFinite points ≡ true)
+module _ (rc rv nv : ℕ) (points : List Float) (k : SoFar) (R : Ready nv rc rv k) (F : allFinite points ≡ true)
     (most : rv ≤ maxVertices) (long : length points ≤ 3 * rv) where
   abbrev opp : ℕ → ℕ
   opp d = getD (k .co) d absent

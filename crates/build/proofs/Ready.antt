@@ -11,7 +11,7 @@ use Rattle.corner.specs.Corner.{next, previous, absent}
 use Rattle.corner.proofs.Turns.{next-first, next-second, next-last, previous-first, previous-second, previous-last}
 use Rattle.fan.proofs.Redirect.{at, at-same, at-other, Seen, set-seen}
 use Rattle.table.specs.Slots.{paired}
-use Rattle.build.specs.Build.{Kept, found, skip, grow}
+use Rattle.build.specs.Build.{SoFar, found, skip, grow}
 use Rattle.build.specs.Ready.{Same, Paired, Ready}
 use Rattle.build.proofs.Find.{Edge, Finding, none, some, finding}
 use Rattle.build.proofs.Grow.{New, grown-paired}
@@ -21,13 +21,13 @@ use Rattle.build.proofs.Meet.{Link, bare, linked, Place, apart, met, me
 paired-seen : {o : List ℕ} {f : ℕ → ℕ} {x d : ℕ} (a b : ℕ) → Seen o f x d → Seen (paired o a b) (at b a (at a b f)) x d
 paired-seen a b s = set-seen b a (set-seen a b s)
 
-abbrev pub opp : Kept → ℕ → ℕ
+abbrev pub opp : SoFar → ℕ → ℕ
 opp s d = getD (s .co) d absent
 
-abbrev pub vtx : Kept → ℕ → ℕ
+abbrev pub vtx : SoFar → ℕ → ℕ
 vtx s d = getD (s .cv) d 0
 
-abbrev pub corner : Kept → ℕ → ℕ
+abbrev pub corner : SoFar → ℕ → ℕ
 corner s v = getD (s .vc) v absent
 
 -- which corner of the new face
@@ -71,13 +71,13 @@ module _ (l : List ℕ) (i j k a b c x : ℕ) where
   trip-three h = getD-set-same (set (set l i a) j b) k c x (simp length-set h)
 
 -- the kept face
-module _ (nv room vroom : ℕ) (s : Kept) (R : Ready nv room vroom s) (a b c : ℕ) (ha : a < nv) (hb : b < nv) (hc : c < nv)
+module _ (nv room vroom : ℕ) (s : SoFar) (R : Ready nv room vroom s) (a b c : ℕ) (ha : a < nv) (hb : b < nv) (hc : c < nv)
     (ab : a ≢ b) (bc : b ≢ c) (ca : c ≢ a) (t0 : found s b c ≡ absent) (t1 : found s c a ≡ absent) (t2 : found s a b ≡ absent)
     (fit : s .nc + 3 ≤ room) where
   abbrev n : ℕ
   n = s .nc
 
-  abbrev g : Kept
+  abbrev g : SoFar
   g = grow s a b c
 
   thirds : n % 3 ≡ 0
@@ -363,7 +363,7 @@ module _ (nv room vroom : ℕ) (s : Kept) (R : Ready nv room vroom s) (a b c : �
     has = has′;
   }
 
-pub skip-ready : (nv room vroom : ℕ) (s : Kept) → Ready nv room vroom s → Ready nv room vroom (skip s)
+pub skip-ready : (nv room vroom : ℕ) (s : SoFar) → Ready nv room vroom s → Ready nv room vroom (skip s)
 skip-ready nv room vroom s R = record {
   cv-length = R .cv-length;
   co-length = R .co-length;

@@ -42,7 +42,7 @@ allFinite (x ∷ xs) = finite x && allFinite xs
 
 -- What the faces so far have made: the corners' vertices and opposites, the vertices' corners, the number of corners, and the number
 -- of faces skipped. All marks are still 0.
-pub record Kept : Type 0 where
+pub record SoFar : Type 0 where
   pub cv : List ℕ
   pub co : List ℕ
   pub vc : List ℕ
@@ -50,7 +50,7 @@ pub record Kept : Type 0 where
   pub skipped : ℕ
 
 -- no corner yet: the parts of a blank table
-abbrev pub start : (rc rv : ℕ) → Kept
+abbrev pub start : (rc rv : ℕ) → SoFar
 start rc rv =
     record {
       cv = blank rc rv .cornerVertex;
@@ -69,7 +69,7 @@ unfoldable pub findEdge : List ℕ → ℕ → ℕ → ℕ → ℕ → ℕ
 findEdge cv x y zero i = absent
 findEdge cv x y (suc n) i = let r = findEdge cv x y n (suc i) in cond (edgeAt cv x y i) i r
 
-abbrev pub found : Kept → ℕ → ℕ → ℕ
+abbrev pub found : SoFar → ℕ → ℕ → ℕ
 found s x y = findEdge (s .cv) x y (s .nc) 0
 
 -- "an index not below the vertex count (2)"
@@ -81,19 +81,19 @@ abbrev pub repeated : ℕ → ℕ → ℕ → Bool
 repeated a b c = eqb a b || (eqb b c || eqb c a)
 
 -- "a directed edge already held by a kept face"
-abbrev pub holds : Kept → ℕ → ℕ → Bool
+abbrev pub holds : SoFar → ℕ → ℕ → Bool
 holds s x y = not (eqb (found s x y) absent)
 
-abbrev pub taken : Kept → ℕ → ℕ → ℕ → Bool
+abbrev pub taken : SoFar → ℕ → ℕ → ℕ → Bool
 taken s a b c = holds s b c || (holds s c a || holds s a b)
 
 -- "the face is skipped and counted, not refused"
-abbrev pub skip : Kept → Kept
+abbrev pub skip : SoFar → SoFar
 skip s = record { cv = s .cv; co = s .co; vc = s .vc; nc = s .nc; skipped = s .skipped + 1 }
 
 -- "Each new corner is paired with the corner whose edge runs the other way, if there is one. A vertex's corner is the last one made
 -- for it."
-unfoldable pub grow : Kept → ℕ → ℕ → ℕ → Kept
+unfoldable pub grow : SoFar → ℕ → ℕ → ℕ → SoFar
 grow s a b c =
     let n = s .nc in
     record {
@@ -106,10 +106,10 @@ grow s a b c =
 
 pub data Step : Type 0 where
   refuse : ℕ → Step
-  go : Kept → Step
+  go : SoFar → Step
 
 -- "For each face, in this order": 2, 3, skipped, "no room for three corners (6)"
-unfoldable pub face : (nv room : ℕ) → Kept → ℕ → ℕ → ℕ → Step
+unfoldable pub face : (nv room : ℕ) → SoFar → ℕ → ℕ → ℕ → Step
 face nv room s a b c =
     cond (known nv a b c)
     (cond (repeated a b c) (refuse 3)
@@ -117,12 +117,12 @@ face nv room s a b c =
     (cond (ltb room (s .nc + 3)) (refuse 6) (go (grow s a b c)))))
     (refuse 2)
 
-abbrev pub onStep : Step → (Kept → Step) → Step
+abbrev pub onStep : Step → (SoFar → Step) → Step
 onStep (refuse n) f = refuse n
 onStep (go s) f = f s
 
 -- "faces in triples; one or two indices left at the end are ignored"
-unfoldable pub faces : (nv room : ℕ) → Kept → List ℕ → Step
+unfoldable pub faces : (nv room : ℕ) → SoFar → List ℕ → Step
 faces nv room s [] = go s
 faces nv room s (a ∷ []) = go s
 faces nv room s (a ∷ b ∷ []) = go s
@@ -169,7 +169,7 @@ module _ (fan : ℕ → List ℕ) where
   vertices nc (suc k) v s = vertices nc k (suc v) (cond (eqb (cornerAt (s .vc) v) absent) s (corners v nc 0 s))
 
 -- "Each other vertex, ascending": every corner below the count is live here, so the fans are the rings by opposites alone
-abbrev pub spread : ℕ → ℕ → List Float → Kept → Shared
+abbrev pub spread : ℕ → ℕ → List Float → SoFar → Shared
 spread rv nv points k =
     vertices (ring (k .co) (k .nc)) (k .nc) nv 0 (record { cv = k .cv; vc = k .vc; vp = laid rv points; nv = nv })
 
@@ -182,7 +182,7 @@ isolated vc (suc k) i m = isolated vc k (suc i) (cond (eqb (cornerAt vc i) absen
 -- ---- the whole call
 
 -- the corner slots of k as they are, with the vertices of s
-abbrev pub done : (rc rv : ℕ) → Kept → Shared → Outcome
+abbrev pub done : (rc rv : ℕ) → SoFar → Shared → Outcome
 done rc rv k s =
     built 0 (k .skipped)
     (table (s .cv) (k .co) (replicate rc 0) (s .vc) (isolated (s .vc) (s .nv) 0 (replicate rv 0)) (s .vp) (s .nv) (k .nc))

@@ -7,7 +7,7 @@ use Rattle.corner.specs.Corner.{next, previous, absent}
 use Rattle.table.specs.Slots.{vertexAt, oppositeAt, cornerAt}
 use Rattle.table.specs.Table.{maxCorners}
 use Rattle.table.specs.Rules.{Mate}
-use Rattle.build.specs.Build.{Kept}
+use Rattle.build.specs.Build.{SoFar}
 
 -- the corners d and k have the same directed edge
 pub record Same (f g : ℕ → ℕ) (d k : ℕ) : Type 0 where
@@ -23,7 +23,7 @@ pub record Paired (n : ℕ) (opp vtx : ℕ → ℕ) : Type 0 where
   pub once : (c d : ℕ) → c < n → d < n → Same vtx vtx c d → c ≡ d
 
 -- the rooms and counts; each corner's vertex is known; a vertex with a corner has one of its own, and a corner's vertex has one
-pub record Ready (nv room vroom : ℕ) (s : Kept) : Type 0 where
+pub record Ready (nv room vroom : ℕ) (s : SoFar) : Type 0 where
   pub cv-length : length (s .cv) ≡ room
   pub co-length : length (s .co) ≡ room
   pub vc-length : length (s .vc) ≡ vroom

@@ -18,12 +18,12 @@ use Rattle.table.specs.declared.Counts.{Counts}
 use Rattle.fan.proofs.Fan.{Linked}
 use Rattle.ring.specs.Ring.{ring}
 use Rattle.ring.proofs.Exact.{ring-exact}
-use Rattle.build.specs.Build.{Kept, Step, go, faces, Shared, vertices, Outcome, built, refused, start, laid, allFinite, isolated, done, spread, finish, build}
+use Rattle.build.specs.Build.{SoFar, Step, go, faces, Shared, vertices, Outcome, built, refused, start, laid, allFinite, isolated, done, spread, finish, build}
 use Rattle.build.specs.Ready.{Ready}
 use Rattle.build.proofs.Grow.{paired-linked}
 use Rattle.build.proofs.Folded.{Fine, faces-ready, start-ready}
 use Rattle.build.proofs.Settle.{Whole}
-use Rattle.builder_faces.specs.Steps.{kept, stepped}
+use Rattle.builder_faces.specs.Steps.{soFar, stepped}
 use Rattle.builder_fans.specs.Chains.{shared, Ended, Threads, threads, threaded, marked, settled}
 use Rattle.builder_fans.proofs.Marks.{fast}
 use Rattle.builder.specs.Calls.{Fresh, Begun}
@@ -62,8 +62,8 @@ module _ (rc rv nv n sk r : ℕ) (cv co vc cm cm₁ cm₂ vm vm₂ cv′ vc′ :
     (G : Begun cv co cm vc vm vp n nv rv sk) (long : length cm ≡ rc) (lay : vp ≡ laid rv points)
     (m : cm₁ ≡ marked (ring co n) vc nv 0 cm) (f : threads cm₂ vm₂ ≡ threaded cv n (threads cm₁ vm))
     (E : Ended rv (settled (ring co n) cm₂ vm₂ n nv 0 (shared cv vc vp nv)) cv′ vc′ vp′ r) where
-  R : Ready nv rc rv (kept cv co vc n sk)
-  R = subst (λ (x : ℕ). Ready nv x rv (kept cv co vc n sk)) long (G .ready)
+  R : Ready nv rc rv (soFar cv co vc n sk)
+  R = subst (λ (x : ℕ). Ready nv x rv (soFar cv co vc n sk)) long (G .ready)
 
   L : Linked (λ d. d < n) (λ d. getD co d absent) (λ d. getD cv d 0)
   L = paired-linked (R .paired)
@@ -78,28 +78,28 @@ module _ (rc rv nv n sk r : ℕ) (cv co vc cm cm₁ cm₂ vm vm₂ cv′ vc′ :
   chains = f ∙ ap (λ (x : List ℕ). threaded cv n (threads x vm)) (m ∙ ap (marked (ring co n) vc nv 0) blank-marks)
       ∙ ap (λ (x : List ℕ). threaded cv n (threads (marked (ring co n) vc nv 0 (replicate rc 0)) x)) (G .flags)
 
-  same : settled (ring co n) cm₂ vm₂ n nv 0 (shared cv vc vp nv) ≡ spread rv nv points (kept cv co vc n sk)
+  same : settled (ring co n) cm₂ vm₂ n nv 0 (shared cv vc vp nv) ≡ spread rv nv points (soFar cv co vc n sk)
   same =
       ap (λ (t : Threads). settled (ring co n) (t .link) (t .head) n nv 0 (shared cv vc vp nv)) chains
       ∙ fast n rc rv nv (λ d. getD co d absent) (ring co n) (ring-exact co n L (λ d h. h)) (shared cv vc vp nv) W (R .fits) refl (R .vertices)
       ∙ ap (λ (p : List Float). vertices (ring co n) n nv 0 (shared cv vc p nv)) lay
 
-  pub finish-full : rv < r → refused rc rv 5 ≡ finish rc rv nv points (go (kept cv co vc n sk))
+  pub finish-full : rv < r → refused rc rv 5 ≡ finish rc rv nv points (go (soFar cv co vc n sk))
   unfolding finish
   finish-full h =
-      let z : rv < spread rv nv points (kept cv co vc n sk) .nv = subst (λ (s : Shared). rv < s .nv) same (E .full h) in
-      rw (lt-ltb rv (spread rv nv points (kept cv co vc n sk) .nv) z)
+      let z : rv < spread rv nv points (soFar cv co vc n sk) .nv = subst (λ (s : Shared). rv < s .nv) same (E .full h) in
+      rw (lt-ltb rv (spread rv nv points (soFar cv co vc n sk) .nv) z)
 
   pub finish-fits : r ≤ rv → (cm₃ vm₃ : List ℕ) → cm₃ ≡ replicate rc 0 → vm₃ ≡ isolated vc′ r 0 (replicate rv 0)
-      → built 0 sk (table cv′ co cm₃ vc′ vm₃ vp′ r n) ≡ finish rc rv nv points (go (kept cv co vc n sk))
+      → built 0 sk (table cv′ co cm₃ vc′ vm₃ vp′ r n) ≡ finish rc rv nv points (go (soFar cv co vc n sk))
   unfolding finish
-  finish-fits h cm₃ vm₃ p q = by (spread rv nv points (kept cv co vc n sk)) (E .fits h ∙ same)
+  finish-fits h cm₃ vm₃ p q = by (spread rv nv points (soFar cv co vc n sk)) (E .fits h ∙ same)
     where
       by : (s : Shared) → shared cv′ vc′ vp′ r ≡ s
-          → built 0 sk (table cv′ co cm₃ vc′ vm₃ vp′ r n) ≡ cond (ltb rv (s .nv)) (refused rc rv 5) (done rc rv (kept cv co vc n sk) s)
+          → built 0 sk (table cv′ co cm₃ vc′ vm₃ vp′ r n) ≡ cond (ltb rv (s .nv)) (refused rc rv 5) (done rc rv (soFar cv co vc n sk) s)
       by s e =
           subst
-          (λ (t : Shared). built 0 sk (table cv′ co cm₃ vc′ vm₃ vp′ r n) ≡ cond (ltb rv (t .nv)) (refused rc rv 5) (done rc rv (kept cv co vc n sk) t))
+          (λ (t : Shared). built 0 sk (table cv′ co cm₃ vc′ vm₃ vp′ r n) ≡ cond (ltb rv (t .nv)) (refused rc rv 5) (done rc rv (soFar cv co vc n sk) t))
           e (rw (le-ltb rv r h, p, q))
 
 -- ---- points and faces
@@ -126,8 +126,8 @@ module _ (cv co cm vc vm : List ℕ) (vp ps : List Float) (rc rv nv : ℕ) (B : 
       tail : drop (0 + length ps) vp ≡ replicate (3 * rv - length ps) nought
       tail = let z : 0 + length ps ≡ length ps = omega arith in rw (z, points-blank) (drop-replicate (length ps) (3 * rv) nought)
 
-  begin : kept cv co vc 0 0 ≡ start rc rv
-  begin = ap (λ (t : Table). kept (t .cornerVertex) (t .cornerOpposite) (t .vertexCorner) 0 0) (B .empty)
+  begin : soFar cv co vc 0 0 ≡ start rc rv
+  begin = ap (λ (t : Table). soFar (t .cornerVertex) (t .cornerOpposite) (t .vertexCorner) 0 0) (B .empty)
 
   pub cm-long : length cm ≡ rc
   cm-long = ap (λ (t : Table). length (t .cornerMark)) (B .empty) ∙ length-replicate {0} {A = ℕ} rc 0
@@ -148,20 +148,20 @@ module _ (cv co cm vc vm : List ℕ) (vp ps : List Float) (rc rv nv : ℕ) (B : 
         vertexPointRoom = s ∙ vp-long ∙ ap (λ (x : ℕ). 3 * x) (sym vm-long);
       }
 
-  module _ (fs cv′ co′ vc′ : List ℕ) (a n sk : ℕ) (e : stepped a (kept cv′ co′ vc′ n sk) ≡ faces nv rc (kept cv co vc 0 0) fs) where
-    e′ : stepped a (kept cv′ co′ vc′ n sk) ≡ faces nv rc (start rc rv) fs
-    e′ = e ∙ ap (λ (k : Kept). faces nv rc k fs) begin
+  module _ (fs cv′ co′ vc′ : List ℕ) (a n sk : ℕ) (e : stepped a (soFar cv′ co′ vc′ n sk) ≡ faces nv rc (soFar cv co vc 0 0) fs) where
+    e′ : stepped a (soFar cv′ co′ vc′ n sk) ≡ faces nv rc (start rc rv) fs
+    e′ = e ∙ ap (λ (k : SoFar). faces nv rc k fs) begin
 
-    fine : Fine nv rc rv (stepped a (kept cv′ co′ vc′ n sk))
+    fine : Fine nv rc rv (stepped a (soFar cv′ co′ vc′ n sk))
     fine = subst (λ (t : Step). Fine nv rc rv t) (sym e′) (faces-ready nv rc rv fs (start rc rv) (start-ready nv rc rv (B .fits) (B .corners)))
 
-    ready : (x : ℕ) → Fine nv rc rv (stepped x (kept cv′ co′ vc′ n sk)) → x ≡ 0 → Ready nv rc rv (kept cv′ co′ vc′ n sk)
+    ready : (x : ℕ) → Fine nv rc rv (stepped x (soFar cv′ co′ vc′ n sk)) → x ≡ 0 → Ready nv rc rv (soFar cv′ co′ vc′ n sk)
     ready zero h z = h
     ready (suc x) h z = absurd (omega arith)
 
     pub begun : a ≡ 0 → (vp′ : List Float) → length vp′ ≡ length vp → Begun cv′ co′ cm vc′ vm vp′ n nv rv sk
     begun z vp′ l = record {
-      ready = subst (λ (x : ℕ). Ready nv x rv (kept cv′ co′ vc′ n sk)) (sym cm-long) (ready a fine z);
+      ready = subst (λ (x : ℕ). Ready nv x rv (soFar cv′ co′ vc′ n sk)) (sym cm-long) (ready a fine z);
       marks = ap (λ (t : Table). t .cornerMark) (B .empty) ∙ ap (λ (x : ℕ). replicate x 0) (sym cm-long);
       flags = ap (λ (t : Table). t .vertexMark) (B .empty);
       points = l ∙ vp-long;
@@ -172,14 +172,14 @@ module _ (cv co cm vc vm : List ℕ) (vp ps : List Float) (rc rv nv : ℕ) (B : 
     unfolding finish
     made-refused z = by a z e′
       where
-        by : (x : ℕ) → (x ≡ 0 → ⊥) → stepped x (kept cv′ co′ vc′ n sk) ≡ faces nv rc (start rc rv) fs → refused rc rv x ≡ finish rc rv nv ps (faces nv rc (start rc rv) fs)
+        by : (x : ℕ) → (x ≡ 0 → ⊥) → stepped x (soFar cv′ co′ vc′ n sk) ≡ faces nv rc (start rc rv) fs → refused rc rv x ≡ finish rc rv nv ps (faces nv rc (start rc rv) fs)
         by zero n q = absurd (n refl)
         by (suc x) n q = ap (finish rc rv nv ps) q
 
-    pub made-done : a ≡ 0 → (o : Outcome) → o ≡ finish (length cm) rv nv ps (go (kept cv′ co′ vc′ n sk)) → o ≡ finish rc rv nv ps (faces nv rc (start rc rv) fs)
-    made-done z o q = q ∙ ap (λ (x : ℕ). finish x rv nv ps (go (kept cv′ co′ vc′ n sk))) cm-long ∙ ap (finish rc rv nv ps) (by a z e′)
+    pub made-done : a ≡ 0 → (o : Outcome) → o ≡ finish (length cm) rv nv ps (go (soFar cv′ co′ vc′ n sk)) → o ≡ finish rc rv nv ps (faces nv rc (start rc rv) fs)
+    made-done z o q = q ∙ ap (λ (x : ℕ). finish x rv nv ps (go (soFar cv′ co′ vc′ n sk))) cm-long ∙ ap (finish rc rv nv ps) (by a z e′)
       where
-        by : (x : ℕ) → x ≡ 0 → stepped x (kept cv′ co′ vc′ n sk) ≡ faces nv rc (start rc rv) fs → go (kept cv′ co′ vc′ n sk) ≡ faces nv rc (start rc rv) fs
+        by : (x : ℕ) → x ≡ 0 → stepped x (soFar cv′ co′ vc′ n sk) ≡ faces nv rc (start rc rv) fs → go (soFar cv′ co′ vc′ n sk) ≡ faces nv rc (start rc rv) fs
         by zero n q = q
         by (suc x) n q = absurd (omega arith)
 

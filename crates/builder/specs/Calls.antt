@@ -6,7 +6,7 @@ use lib.Ieee.{Float}
 use lib.ListN.{length, replicate}
 use Rattle.table.specs.Table.{table, blank, maxCorners, maxVertices}
 use Rattle.build.specs.Ready.{Ready}
-use Rattle.builder_faces.specs.Steps.{kept}
+use Rattle.builder_faces.specs.Steps.{soFar}
 
 -- a blank table with its points still to come, and room for them
 pub record Fresh (cv co cm vc vm : List ℕ) (vp ps : List Float) (rc rv nv : ℕ) : Type 0 where
@@ -18,7 +18,7 @@ pub record Fresh (cv co cm vc vm : List ℕ) (vp ps : List Float) (rc rv nv : �
 
 -- where the duplicates begin: the faces are in, and all marks are 0
 pub record Begun (cv co cm vc vm : List ℕ) (vp : List Float) (n count room skipped : ℕ) : Type 0 where
-  pub ready : Ready count (length cm) room (kept cv co vc n skipped)
+  pub ready : Ready count (length cm) room (soFar cv co vc n skipped)
   pub marks : cm ≡ replicate (length cm) 0
   pub flags : vm ≡ replicate room 0
   pub points : length vp ≡ 3 * room

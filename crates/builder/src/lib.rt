@@ -6,7 +6,7 @@ ghost use lib.Ieee.{Float};
 ghost use lib.ListN.{length};
 ghost use Rattle.table.specs.Table.{table, blank, Shaped};
 ghost use Rattle.build.specs.Build.{built, go, build as buildOf, finish as finishOf, faces as facesOf, start, laid};
-ghost use Rattle.builder_faces.specs.Steps.{kept};
+ghost use Rattle.builder_faces.specs.Steps.{soFar};
 ghost use Rattle.builder.specs.Calls.{Begun, Fresh};
 use table::Counts;
 
@@ -54,7 +54,7 @@ fn finish(
     requires { ⌜ Begun (now cv) (now co) (now cm) (now vc) (now vm) (now vp) n count room skipped ⌝ }
     ensures { λ r. ⌜ ((points : List Float) → now (vp .entry) ≡ laid room points
         → built (r .answer) (r .skipped) (table (now (cv .exit)) (now (co .exit)) (now (cm .exit)) (now (vc .exit)) (now (vm .exit)) (now (vp .exit)) (r .counts .vertices) (r .counts .corners))
-        ≡ finishOf (length (now (cm .entry))) room count points (go (kept (now (cv .entry)) (now (co .entry)) (now (vc .entry)) n skipped))) ⌝ }
+        ≡ finishOf (length (now (cm .entry))) room count points (go (soFar (now (cv .entry)) (now (co .entry)) (now (vc .entry)) n skipped))) ⌝ }
 {
     builder_fans::mark_fans(co, vc, cm, n, count);
     builder_fans::thread_left(cv, cm, vm, n);

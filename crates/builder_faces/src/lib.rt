@@ -10,7 +10,7 @@ ghost use lib.Seq.{sets};
 ghost use Rattle.table.specs.Slots.{paired, three};
 ghost use Rattle.build.specs.Build.{allFinite, face as faceOf, faces as facesOf, known as knownOf, repeated as repeatedOf};
 ghost use Rattle.builder_faces.specs.Search.{noted, lookOf, faceLook, touched, amongOf, sought, takenBy};
-ghost use Rattle.builder_faces.specs.Steps.{kept, stepped};
+ghost use Rattle.builder_faces.specs.Steps.{soFar, stepped};
 use corner::Corner;
 
 // ---- points
@@ -265,8 +265,8 @@ fn add_face(
     requires { ⌜ n ≤ room ⌝ }
     requires { ⌜ n % 3 ≡ 0 ⌝ }
     requires { ⌜ skipped + 1 < 18446744073709551616 ⌝ }
-    ensures { λ r. ⌜ stepped (r .answer) (kept (now (cv .exit)) (now (co .exit)) (now (vc .exit)) (r .corners) (r .skipped))
-        ≡ faceOf count room (kept (now (cv .entry)) (now (co .entry)) (now (vc .entry)) n skipped) a b c ⌝ }
+    ensures { λ r. ⌜ stepped (r .answer) (soFar (now (cv .exit)) (now (co .exit)) (now (vc .exit)) (r .corners) (r .skipped))
+        ≡ faceOf count room (soFar (now (cv .entry)) (now (co .entry)) (now (vc .entry)) n skipped) a b c ⌝ }
 {
     let wrong = refusal(!known(count, a, b, c), repeated(a, b, c));
     if wrong != 0 {
@@ -311,8 +311,8 @@ pub fn add_faces(
     faces: &[u32],
 ) -> Added
     requires { ⌜ room < 4294967293 ⌝ }
-    ensures { λ r. ⌜ stepped (r .answer) (kept (now (cv .exit)) (now (co .exit)) (now (vc .exit)) (r .corners) (r .skipped))
-        ≡ facesOf count room (kept (now (cv .entry)) (now (co .entry)) (now (vc .entry)) 0 0) (now (faces .entry)) ⌝ }
+    ensures { λ r. ⌜ stepped (r .answer) (soFar (now (cv .exit)) (now (co .exit)) (now (vc .exit)) (r .corners) (r .skipped))
+        ≡ facesOf count room (soFar (now (cv .entry)) (now (co .entry)) (now (vc .entry)) 0 0) (now (faces .entry)) ⌝ }
 {
     let mut i: usize = 0;
     let mut n: u32 = 0;
