@@ -1,13 +1,13 @@
 -- Where the duplicates fit, the table is well-formed: R1 to R6. Assumes nothing.
 use mathlib.Core.Path.{_≡_, refl, ap, sym, _∙_, subst}
-use mathlib.Core.Logic.{_≢_, Ne·symm, _⊎_, inl, inr}
-use mathlib.Core.Bool.{Bool, true, false, cond, not, _&&_, _||_, false≢true, true≢false}
-use mathlib.Core.List.{List, [], _∷_, _++_, List·Memᴰ}
-use Prim.Native.Nat.{ℕ, zero, suc, _+_, _-_, _*_, _≤_, _<_, _%_, _/_}
+use mathlib.Core.Logic.{_≢_, _⊎_, inl, inr}
+use mathlib.Core.Bool.{Bool, true, false, cond}
+use mathlib.Core.List.{List, [], _∷_, _++_}
+use Prim.Native.Nat.{ℕ, zero, suc, _+_, _-_, _*_, _≤_, _<_}
 use native.Mathlib.Omega.{arith}
 use native.Mathlib.Decide.{ℕ-discrete, decLt}
-use borrow.Author.Tests.{eqb-true, eqb-false, eq-eqb, ne-eqb, ltb-true, ltb-false, leb-true}
-use lib.Dec.{eqb, ltb, leb}
+use borrow.Author.Tests.{eq-eqb, ne-eqb}
+use lib.Dec.{eqb}
 use lib.Ieee.{Float, ofBits}
 use lib.Ieee.Scale.{finite}
 use lib.ListN.{length, getD, set, length-set, replicate, length-replicate, length-append}
@@ -17,14 +17,15 @@ use Rattle.corner.proofs.Turns.{next-below}
 use Rattle.table.specs.Slots.{nought, pointAt, withPoint}
 use Rattle.table.specs.Table.{Table, Live, LiveVertex, Shaped, maxVertices}
 use Rattle.table.specs.Rules.{WellFormed}
+use Rattle.table.proofs.Shape.{and-true}
 use Rattle.fan.proofs.Fan.{Left, Conn, Linked, conn-fan}
 use Rattle.fan.proofs.Spread.{Settled}
-use Rattle.build.specs.Build.{Kept, Shared, give, left, corners, vertices, laid, allFinite, isolated, ringOf, done, spread}
-use Rattle.build.proofs.Grow.{Paired, paired-linked}
-use Rattle.build.proofs.Ready.{Ready}
-use Rattle.build.proofs.Folded.{and-l, and-r}
-use Rattle.build.proofs.Settle.{Whole, Pass, Past, early, late, pass-all}
-use Rattle.build.proofs.Spun.{ring-exact}
+use Rattle.ring.specs.Ring.{ring}
+use Rattle.ring.proofs.Exact.{ring-exact}
+use Rattle.build.specs.Build.{SoFar, Shared, give, left, corners, vertices, laid, allFinite, isolated, done, spread}
+use Rattle.build.specs.Ready.{Ready}
+use Rattle.build.proofs.Grow.{paired-linked}
+use Rattle.build.proofs.Settle.{Whole, Exact, Pass, Past, early, late, pass-all}
 
 -- ---- numbers stay finite
 
@@ -42,8 +43,8 @@ replicate-finite (suc n) (suc i) = replicate-finite n i
 
 append-finite : (l : List Float) (n : ℕ) → allFinite l ≡ true → AllFinite (l ++ replicate n nought)
 append-finite [] n e i = replicate-finite n i
-append-finite (x ∷ xs) n e zero = and-l (finite x) (allFinite xs) e
-append-finite (x ∷ xs) n e (suc i) = append-finite xs n (and-r (finite x) (allFinite xs) e) i
+append-finite (x ∷ xs) n e zero = and-true (finite x) (allFinite xs) e .0
+append-finite (x ∷ xs) n e (suc i) = append-finite xs n (and-true (finite x) (allFinite xs) e .1) i
 
 laid-finite : (rv : ℕ) (l : List Float) → allFinite l ≡ true → AllFinite (laid rv l)
 unfolding laid
@@ -176,7 +177,7 @@ getD-zeros (suc n) (suc i) h = getD-zeros n i (omega arith)
 
 -- ---- the table at the end
 
-module _ (rc rv nv : ℕ) (points : List Float) (k : Kept) (R : Ready nv rc rv k) (F : allFinite points ≡ true)
+module _ (rc rv nv : ℕ) (points : List Float) (k : SoFar) (R : Ready nv rc rv k) (F : allFinite points ≡ true)
     (most : rv ≤ maxVertices) (long : length points ≤ 3 * rv) where
   abbrev opp : ℕ → ℕ
   opp d = getD (k .co) d absent
@@ -193,7 +194,10 @@ module _ (rc rv nv : ℕ) (points : List Float) (k : Kept) (R : Ready nv rc rv k
   L : Linked (λ d. d < n) opp (λ d. getD (k .cv) d 0)
   L = paired-linked (R .paired)
 
-  first : Pass n rc rv opp (ringOf (k .co) n) (R .fits) (ring-exact (k .co) n _ L) nv 0 s₀
+  E : Exact n opp (ring (k .co) n)
+  E = ring-exact (k .co) n L (λ d h. h)
+
+  first : Pass n rc rv opp (ring (k .co) n) (R .fits) E nv 0 s₀
   unfolding Settled
   first =
       record {
@@ -202,14 +206,14 @@ module _ (rc rv nv : ℕ) (points : List Float) (k : Kept) (R : Ready nv rc rv k
         grown = omega arith;
       }
     where
-      none : (u : ℕ) → Past n rc rv opp (ringOf (k .co) n) (R .fits) (ring-exact (k .co) n _ L) nv 0 u → getD (k .vc) u absent ≢ absent
+      none : (u : ℕ) → Past n rc rv opp (ring (k .co) n) (R .fits) E nv 0 u → getD (k .vc) u absent ≢ absent
           → (d : ℕ) → d < n → getD (k .cv) d 0 ≡ u → Conn (Left (λ x. x < n) opp) (getD (k .vc) u absent) d
       none u (early h) t d l e = absurd (omega arith)
       none u (late h) t d l e = absurd (omega (arith, R .below d l))
 
   module _ (fits : s .nv ≤ rv) where
-    last : Pass n rc rv opp (ringOf (k .co) n) (R .fits) (ring-exact (k .co) n _ L) nv nv s
-    last = pass-all n rc rv opp (ringOf (k .co) n) (R .fits) (ring-exact (k .co) n _ L) nv nv 0 s₀ (omega arith) (λ _. first) fits
+    last : Pass n rc rv opp (ring (k .co) n) (R .fits) E nv nv s
+    last = pass-all n rc rv opp (ring (k .co) n) (R .fits) E nv nv 0 s₀ (omega arith) (λ _. first) fits
 
     W : Whole n rc rv opp s
     W = last .whole
@@ -250,12 +254,12 @@ module _ (rc rv nv : ℕ) (points : List Float) (k : Kept) (R : Ready nv rc rv k
         by (inr q) = q
 
     numbers : AllFinite (s .vp)
-    numbers = vertices-finite (ringOf (k .co) n) n nv 0 s₀ (laid-finite rv points F)
+    numbers = vertices-finite (ring (k .co) n) n nv 0 s₀ (laid-finite rv points F)
 
-    past : (u : ℕ) → Past n rc rv opp (ringOf (k .co) n) (R .fits) (ring-exact (k .co) n _ L) nv nv u
+    past : (u : ℕ) → Past n rc rv opp (ring (k .co) n) (R .fits) E nv nv u
     past u = by (decLt u nv)
       where
-        by : Dec (u < nv) → Past n rc rv opp (ringOf (k .co) n) (R .fits) (ring-exact (k .co) n _ L) nv nv u
+        by : Dec (u < nv) → Past n rc rv opp (ring (k .co) n) (R .fits) E nv nv u
         by (yes h) = early h
         by (no h) = late (omega arith)
 
@@ -295,6 +299,6 @@ module _ (rc rv nv : ℕ) (points : List Float) (k : Kept) (R : Ready nv rc rv k
           vertexCornerRoom =
               W .vc-length ∙ sym (isolated-length (s .vc) (s .nv) 0 (replicate rv 0) ∙ length-replicate {0} {A = ℕ} rv 0);
           vertexPointRoom =
-              vertices-long (ringOf (k .co) n) n nv 0 s₀ ∙ laid-long rv points long
+              vertices-long (ring (k .co) n) n nv 0 s₀ ∙ laid-long rv points long
               ∙ ap (λ (x : ℕ). 3 * x) (sym (isolated-length (s .vc) (s .nv) 0 (replicate rv 0) ∙ length-replicate {0} {A = ℕ} rv 0));
         }

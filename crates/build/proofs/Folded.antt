@@ -1,44 +1,34 @@
 -- Every face of a build, and so all of them, leave a table that is ready. Assumes nothing.
-use mathlib.Core.Path.{_≡_, refl, ap, sym, _∙_, subst}
-use mathlib.Core.Logic.{_≢_, Ne·symm, _⊎_, inl, inr}
-use mathlib.Core.Bool.{Bool, true, false, cond, not, _&&_, _||_, false≢true, true≢false}
+use mathlib.Core.Path.{_≡_, refl}
+use mathlib.Core.Logic.{_≢_, inl}
+use mathlib.Core.Bool.{Bool, true, false, cond, _&&_, _||_, true≢false}
 use mathlib.Core.List.{List, [], _∷_}
-use Prim.Native.Nat.{ℕ, zero, suc, _+_, _≤_, _<_, _%_, _/_}
+use Prim.Native.Nat.{ℕ, zero, suc, _+_, _≤_}
 use native.Mathlib.Omega.{arith}
-use borrow.Author.Tests.{eqb-true, eqb-false, eq-eqb, ltb-true, ltb-false, not-false}
+use borrow.Author.Tests.{eqb-true, eqb-false, ltb-true, ltb-false, not-false}
 use lib.Dec.{eqb, ltb}
-use lib.ListN.{length, getD, set, length-set, replicate, length-replicate}
+use lib.ListN.{getD, replicate, length-replicate}
 use Rattle.corner.specs.Corner.{absent}
-use Rattle.build.specs.Build.{Kept, start, found, holds, skip, grow, Step, refuse, go, known, repeated, taken, face, onStep, faces}
-use Rattle.build.proofs.Grow.{Paired}
-use Rattle.build.proofs.Ready.{Ready, grow-ready, skip-ready}
+use Rattle.table.specs.Table.{maxCorners}
+use Rattle.table.proofs.Shape.{and-true}
+use Rattle.build.specs.Build.{SoFar, start, found, holds, skip, grow, Step, refuse, go, known, repeated, taken, face, onStep, faces}
+use Rattle.build.specs.Ready.{Ready}
+use Rattle.build.proofs.Ready.{grow-ready, skip-ready}
 
 -- what a step leaves is ready, and a refusal has a number that isn't 0
-abbrev pub Leaves : (Kept → Type 0) → Step → Type 0
+abbrev pub Leaves : (SoFar → Type 0) → Step → Type 0
 Leaves P (refuse n) = n ≢ 0
 Leaves P (go s) = P s
 
-pub and-l : (a b : Bool) → a && b ≡ true → a ≡ true
-and-l true b e = refl
-and-l false b e = e
-
-pub and-r : (a b : Bool) → a && b ≡ true → b ≡ true
-and-r true b e = e
-and-r false b e = absurd (false≢true e)
-
-pub or-l : (a b : Bool) → a || b ≡ false → a ≡ false
-or-l true b e = e
-or-l false b e = refl
-
-pub or-r : (a b : Bool) → a || b ≡ false → b ≡ false
-or-r true b e = absurd (true≢false e)
-or-r false b e = e
+pub or-false : (a b : Bool) → a || b ≡ false → (a ≡ false) × (b ≡ false)
+or-false true b e = absurd (true≢false e)
+or-false false b e = (refl, e)
 
 module _ (nv room vroom : ℕ) where
   abbrev pub Fine : Step → Type 0
   Fine = Leaves (Ready nv room vroom)
 
-  pub face-ready : (s : Kept) → Ready nv room vroom s → (a b c : ℕ) → Fine (face nv room s a b c)
+  pub face-ready : (s : SoFar) → Ready nv room vroom s → (a b c : ℕ) → Fine (face nv room s a b c)
   unfolding face
   face-ready s R a b c = by (known nv a b c) (repeated a b c) (taken s a b c) (ltb room (s .nc + 3)) refl refl refl refl
     where
@@ -49,29 +39,32 @@ module _ (nv room vroom : ℕ) where
       by true false true f p q w z = skip-ready nv room vroom s R
       by true false false true p q w z = omega arith
       by true false false false p q w z =
-          let n1 = and-r (ltb a nv) (ltb b nv && ltb c nv) p in
-          let r1 = or-r (eqb a b) (eqb b c || eqb c a) q in
-          let t1 = or-r (holds s b c) (holds s c a || holds s a b) w in
+          let n1 = and-true (ltb a nv) (ltb b nv && ltb c nv) p in
+          let n2 = and-true (ltb b nv) (ltb c nv) (n1 .1) in
+          let r1 = or-false (eqb a b) (eqb b c || eqb c a) q in
+          let r2 = or-false (eqb b c) (eqb c a) (r1 .1) in
+          let t1 = or-false (holds s b c) (holds s c a || holds s a b) w in
+          let t2 = or-false (holds s c a) (holds s a b) (t1 .1) in
           grow-ready nv room vroom s R a b c
-          (ltb-true a nv (and-l (ltb a nv) (ltb b nv && ltb c nv) p))
-          (ltb-true b nv (and-l (ltb b nv) (ltb c nv) n1))
-          (ltb-true c nv (and-r (ltb b nv) (ltb c nv) n1))
-          (eqb-false a b (or-l (eqb a b) (eqb b c || eqb c a) q))
-          (eqb-false b c (or-l (eqb b c) (eqb c a) r1))
-          (eqb-false c a (or-r (eqb b c) (eqb c a) r1))
-          (eqb-true (found s b c) absent (not-false _ (or-l (holds s b c) (holds s c a || holds s a b) w)))
-          (eqb-true (found s c a) absent (not-false _ (or-l (holds s c a) (holds s a b) t1)))
-          (eqb-true (found s a b) absent (not-false _ (or-r (holds s c a) (holds s a b) t1)))
+          (ltb-true a nv (n1 .0))
+          (ltb-true b nv (n2 .0))
+          (ltb-true c nv (n2 .1))
+          (eqb-false a b (r1 .0))
+          (eqb-false b c (r2 .0))
+          (eqb-false c a (r2 .1))
+          (eqb-true (found s b c) absent (not-false _ (t1 .0)))
+          (eqb-true (found s c a) absent (not-false _ (t2 .0)))
+          (eqb-true (found s a b) absent (not-false _ (t2 .1)))
           (ltb-false room (s .nc + 3) z)
 
-  pub faces-ready : (fs : List ℕ) (s : Kept) → Ready nv room vroom s → Fine (faces nv room s fs)
+  pub faces-ready : (fs : List ℕ) (s : SoFar) → Ready nv room vroom s → Fine (faces nv room s fs)
   unfolding faces
   faces-ready [] s R = R
   faces-ready (a ∷ []) s R = R
   faces-ready (a ∷ b ∷ []) s R = R
   faces-ready (a ∷ b ∷ c ∷ fs) s R = by (λ u f. faces-ready fs u f) (face nv room s a b c) (face-ready s R a b c)
     where
-      by : ((u : Kept) → Ready nv room vroom u → Fine (faces nv room u fs)) → (t : Step) → Fine t → Fine (onStep t (λ u. faces nv room u fs))
+      by : ((u : SoFar) → Ready nv room vroom u → Fine (faces nv room u fs)) → (t : Step) → Fine t → Fine (onStep t (λ u. faces nv room u fs))
       by more (refuse n) f = f
       by more (go u) f = more u f
 
@@ -80,7 +73,7 @@ getD-replicate zero i x = refl
 getD-replicate (suc n) zero x = refl
 getD-replicate (suc n) (suc i) x = getD-replicate n i x
 
-pub start-ready : (nv room vroom : ℕ) → nv ≤ vroom → room ≤ 196605 → Ready nv room vroom (start room vroom)
+pub start-ready : (nv room vroom : ℕ) → nv ≤ vroom → room ≤ maxCorners → Ready nv room vroom (start room vroom)
 start-ready nv room vroom h m = record {
   cv-length = length-replicate {0} {A = ℕ} room 0;
   co-length = length-replicate {0} {A = ℕ} room absent;

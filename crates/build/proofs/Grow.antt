@@ -1,30 +1,19 @@
 -- A face more keeps R2 to R4 and the uniqueness of directed edges: over functions on ℕ. Assumes nothing.
-use mathlib.Core.Path.{_≡_, refl, ap, sym, _∙_, subst}
+use mathlib.Core.Path.{_≡_, ap, sym, _∙_}
 use mathlib.Core.Logic.{_≢_, _⊎_, inl, inr}
-use Prim.Native.Nat.{ℕ, zero, suc, _+_, _≤_, _<_, _%_, _/_}
+use Prim.Native.Nat.{ℕ, _+_, _≤_, _<_, _%_, _/_}
 use native.Mathlib.Omega.{arith}
 use native.Mathlib.Decide.{decLt}
 use Rattle.corner.specs.Corner.{next, previous, absent}
-use Rattle.corner.proofs.Turns.{next-next, next-previous, previous-next, next-below, next-injective, next-differs, previous-differs, next-not-previous, InFace, itself, after, before, in-face, next-face, next-three, previous-previous}
+use Rattle.corner.proofs.Turns.{next-next, next-previous, next-below, next-injective, InFace, itself, after, before, in-face, next-face}
 use Rattle.table.specs.Rules.{Mate}
 use Rattle.fan.proofs.Fan.{Linked, linked, mate-sym}
+use Rattle.build.specs.Ready.{Same, Paired}
 
--- the corners d and k have the same directed edge; the edge of d runs the other way
-pub record Same (f g : ℕ → ℕ) (d k : ℕ) : Type 0 where
-  pub tail : f (next d) ≡ g (next k)
-  pub head : f (previous d) ≡ g (previous k)
-
+-- the edge of d runs the other way than that of k
 pub record Reversed (f g : ℕ → ℕ) (d k : ℕ) : Type 0 where
   pub tail : f (next d) ≡ g (previous k)
   pub head : f (previous d) ≡ g (next k)
-
--- what the faces so far have: R1 to R4 where all corners below n are live, and each directed edge once
-pub record Paired (n : ℕ) (opp vtx : ℕ → ℕ) : Type 0 where
-  pub thirds : n % 3 ≡ 0
-  pub small : n ≤ absent
-  pub differ : (c : ℕ) → c < n → vtx c ≢ vtx (next c)
-  pub mate : (c : ℕ) → c < n → opp c ≢ absent → Mate (λ d. d < n) opp vtx c (opp c)
-  pub once : (c d : ℕ) → c < n → d < n → Same vtx vtx c d → c ≡ d
 
 pub paired-linked : {n : ℕ} {opp vtx : ℕ → ℕ} → Paired n opp vtx → Linked (λ d. d < n) opp vtx
 paired-linked {n} P = linked (λ c h e. absurd (omega (arith, P .small))) (λ c h. next-below c n (P .thirds) h) (P .differ) (P .mate)
@@ -70,9 +59,6 @@ pub record Grown (n : ℕ) (opp vtx opp′ vtx′ : ℕ → ℕ) : Type 0 where
 module _ {n : ℕ} {opp vtx opp′ vtx′ : ℕ → ℕ} (P : Paired n opp vtx) (G : Grown n opp vtx opp′ vtx′) where
   m : (n + 3) % 3 ≡ 0
   m = omega (arith, P .thirds)
-
-  lives : ℕ → Type 0
-  lives d = d < n + 3
 
   old-next : (d : ℕ) → d < n → next d < n
   old-next d h = next-below d n (P .thirds) h

@@ -5,7 +5,6 @@ pub mod Meet
 pub mod Ready
 pub mod Folded
 pub mod Settle
-pub mod Spun
 pub mod Finished
 pub mod Promise
 pub mod Examples

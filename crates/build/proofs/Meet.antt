@@ -1,11 +1,12 @@
 -- A face whose corners are paired by search has grown the table as `Grown` says. Assumes nothing.
-use mathlib.Core.Path.{_≡_, refl, ap, sym, _∙_, subst}
+use mathlib.Core.Path.{_≡_, refl, sym, _∙_}
 use mathlib.Core.Logic.{_≢_, _⊎_, inl, inr}
-use Prim.Native.Nat.{ℕ, zero, suc, _+_, _≤_, _<_, _%_, _/_}
+use Prim.Native.Nat.{ℕ, _+_, _≤_, _<_}
 use native.Mathlib.Omega.{arith}
 use Rattle.corner.specs.Corner.{next, previous, absent}
 use Rattle.corner.proofs.Turns.{previous-injective}
-use Rattle.build.proofs.Grow.{Same, Reversed, Paired, New, Goes, stays, meets, Grown, new-once, new-previous}
+use Rattle.build.specs.Ready.{Same, Paired}
+use Rattle.build.proofs.Grow.{Reversed, New, Goes, stays, meets, Grown, new-once, new-previous}
 
 -- o is the corner below n whose edge runs the other way than k's, or absent where there is none
 pub data Link (n : ℕ) (vtx vtx′ : ℕ → ℕ) (k o : ℕ) : Type 0 where

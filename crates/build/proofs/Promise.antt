@@ -1,5 +1,5 @@
 -- The promise of the build: where it answers 0 the table is well-formed, R1 to R6. Assumes nothing.
-use mathlib.Core.Path.{_≡_, refl, ap, sym, _∙_}
+use mathlib.Core.Path.{_≡_, refl}
 use mathlib.Core.Bool.{Bool, true, false, cond, _&&_}
 use mathlib.Core.List.{List}
 use Prim.Native.Nat.{ℕ, _*_, _≤_, _%_, _/_}
@@ -9,10 +9,9 @@ use lib.Dec.{eqb, ltb}
 use lib.Ieee.{Float}
 use lib.ListN.{length}
 use Rattle.table.specs.Table.{Table, cornerRoom, vertexRoom, shaped, Shaped, maxVertices}
-use Rattle.table.specs.Rules.{WellFormed}
-use Rattle.table.proofs.Shape.{shaped-true}
-use Rattle.build.specs.Build.{Kept, Step, refuse, go, faces, Outcome, refused, start, allFinite, done, spread, finish, build, Finished}
-use Rattle.build.proofs.Folded.{Fine, faces-ready, start-ready, and-l, and-r}
+use Rattle.table.proofs.Shape.{and-true, shaped-true}
+use Rattle.build.specs.Build.{Step, refuse, go, faces, refused, start, allFinite, done, spread, finish, build, Finished}
+use Rattle.build.proofs.Folded.{Fine, faces-ready, start-ready}
 use Rattle.build.proofs.Finished.{done-formed, done-shaped}
 
 never : (n : ℕ) → (n ≡ 0 → ⊥) → (rc rv : ℕ) → Finished (refused rc rv n)
@@ -49,8 +48,9 @@ module _ (t : Table) (points : List Float) (fs : List ℕ) where
   by true true c p q r = never 5 (omega arith) rc rv
   by true false false p q r = never 4 (omega arith) rc rv
   by true false true p q r =
-      let s : Shaped t = shaped-true t (and-l (shaped t) (eqb (length points % 3) 0) p) in
-      let m : length points % 3 ≡ 0 = eqb-true _ _ (and-r (shaped t) (eqb (length points % 3) 0) p) in
+      let z = and-true (shaped t) (eqb (length points % 3) 0) p in
+      let s : Shaped t = shaped-true t (z .0) in
+      let m : length points % 3 ≡ 0 = eqb-true _ _ (z .1) in
       let f : nv ≤ rv = ltb-false rv nv q in
       finish-good rc rv nv points r (s .vertexMost) (omega arith) (faces nv rc (start rc rv) fs)
       (faces-ready nv rc rv fs (start rc rv) (start-ready nv rc rv f (s .cornerMost)))

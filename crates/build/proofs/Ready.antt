@@ -1,49 +1,34 @@
 -- R1 to R4 hold while faces are added. Assumes nothing.
-use mathlib.Core.Path.{_≡_, refl, ap, sym, _∙_, subst}
+use mathlib.Core.Path.{_≡_, refl, ap, sym, _∙_}
 use mathlib.Core.Logic.{_≢_, Ne·symm, _⊎_, inl, inr}
-use mathlib.Core.Bool.{Bool, true, false, cond, not, _&&_, _||_, false≢true, true≢false}
-use mathlib.Core.List.{List, [], _∷_}
-use Prim.Native.Nat.{ℕ, zero, suc, _+_, _≤_, _<_, _%_, _/_}
+use mathlib.Core.List.{List, []}
+use Prim.Native.Nat.{ℕ, _+_, _≤_, _<_, _%_}
 use native.Mathlib.Omega.{arith}
 use native.Mathlib.Decide.{ℕ-discrete, decLt}
-use borrow.Author.Tests.{eqb-true, eqb-false, eq-eqb, ltb-true, ltb-false}
-use lib.Dec.{eqb, ltb}
 use lib.ListN.{length, getD, set, length-set}
 use lib.Seq.{getD-set-same, getD-set-other}
 use Rattle.corner.specs.Corner.{next, previous, absent}
-use Rattle.corner.proofs.Turns.{next-first, next-second, next-last, previous-first, previous-second, previous-last, next-below, next-next}
+use Rattle.corner.proofs.Turns.{next-first, next-second, next-last, previous-first, previous-second, previous-last}
 use Rattle.fan.proofs.Redirect.{at, at-same, at-other, Seen, set-seen}
 use Rattle.table.specs.Slots.{paired}
-use Rattle.build.specs.Build.{edgeAt, findEdge, Kept, found, holds, skip, grow, Step, refuse, go, known, repeated, taken, face, onStep, faces}
+use Rattle.build.specs.Build.{SoFar, found, skip, grow}
+use Rattle.build.specs.Ready.{Same, Paired, Ready}
 use Rattle.build.proofs.Find.{Edge, Finding, none, some, finding}
-use Rattle.build.proofs.Grow.{Same, Reversed, Paired, New, Grown, grown-paired}
+use Rattle.build.proofs.Grow.{New, grown-paired}
 use Rattle.build.proofs.Meet.{Link, bare, linked, Place, apart, met, meet-grown}
 
 -- two writes that pair a with b
 paired-seen : {o : List ℕ} {f : ℕ → ℕ} {x d : ℕ} (a b : ℕ) → Seen o f x d → Seen (paired o a b) (at b a (at a b f)) x d
 paired-seen a b s = set-seen b a (set-seen a b s)
 
-abbrev pub opp : Kept → ℕ → ℕ
+abbrev pub opp : SoFar → ℕ → ℕ
 opp s d = getD (s .co) d absent
 
-abbrev pub vtx : Kept → ℕ → ℕ
+abbrev pub vtx : SoFar → ℕ → ℕ
 vtx s d = getD (s .cv) d 0
 
-abbrev pub corner : Kept → ℕ → ℕ
+abbrev pub corner : SoFar → ℕ → ℕ
 corner s v = getD (s .vc) v absent
-
--- what holds while faces are added
-pub record Ready (nv room vroom : ℕ) (s : Kept) : Type 0 where
-  pub cv-length : length (s .cv) ≡ room
-  pub co-length : length (s .co) ≡ room
-  pub vc-length : length (s .vc) ≡ vroom
-  pub vertices : nv ≤ vroom
-  pub most : room ≤ 196605
-  pub fits : s .nc ≤ room
-  pub paired : Paired (s .nc) (opp s) (vtx s)
-  pub below : (c : ℕ) → c < s .nc → vtx s c < nv
-  pub home : (v : ℕ) → (corner s v ≡ absent) ⊎ ((corner s v < s .nc) × (vtx s (corner s v) ≡ v))
-  pub has : (c : ℕ) → c < s .nc → corner s (vtx s c) ≢ absent
 
 -- which corner of the new face
 pub data Trio (n k : ℕ) : Type 0 where
@@ -86,13 +71,13 @@ module _ (l : List ℕ) (i j k a b c x : ℕ) where
   trip-three h = getD-set-same (set (set l i a) j b) k c x (simp length-set h)
 
 -- the kept face
-module _ (nv room vroom : ℕ) (s : Kept) (R : Ready nv room vroom s) (a b c : ℕ) (ha : a < nv) (hb : b < nv) (hc : c < nv)
+module _ (nv room vroom : ℕ) (s : SoFar) (R : Ready nv room vroom s) (a b c : ℕ) (ha : a < nv) (hb : b < nv) (hc : c < nv)
     (ab : a ≢ b) (bc : b ≢ c) (ca : c ≢ a) (t0 : found s b c ≡ absent) (t1 : found s c a ≡ absent) (t2 : found s a b ≡ absent)
     (fit : s .nc + 3 ≤ room) where
   abbrev n : ℕ
   n = s .nc
 
-  abbrev g : Kept
+  abbrev g : SoFar
   g = grow s a b c
 
   thirds : n % 3 ≡ 0
@@ -378,7 +363,7 @@ module _ (nv room vroom : ℕ) (s : Kept) (R : Ready nv room vroom s) (a b c : �
     has = has′;
   }
 
-pub skip-ready : (nv room vroom : ℕ) (s : Kept) → Ready nv room vroom s → Ready nv room vroom (skip s)
+pub skip-ready : (nv room vroom : ℕ) (s : SoFar) → Ready nv room vroom s → Ready nv room vroom (skip s)
 skip-ready nv room vroom s R = record {
   cv-length = R .cv-length;
   co-length = R .co-length;

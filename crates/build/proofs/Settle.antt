@@ -1,20 +1,20 @@
 -- The duplicates: after the pass every vertex's corners lie in one fan, and R1 to R4 still hold. Assumes nothing.
 use mathlib.Core.Path.{_≡_, refl, ap, sym, _∙_, subst}
-use mathlib.Core.Logic.{_≢_, Ne·symm, _⊎_, inl, inr}
+use mathlib.Core.Logic.{_≢_, _⊎_, inl, inr}
 use mathlib.Core.Bool.{Bool, true, false, cond, not, _&&_, _||_, false≢true, true≢false}
 use mathlib.Core.List.{List, [], _∷_, List·Memᴰ, List·Memᴰ·head, List·Memᴰ·tail}
-use Prim.Native.Nat.{ℕ, zero, suc, _+_, _≤_, _<_, _%_, _/_}
+use Prim.Native.Nat.{ℕ, zero, suc, _+_, _≤_, _<_}
 use native.Mathlib.Omega.{arith}
-use native.Mathlib.Decide.{ℕ-discrete, decLt}
-use borrow.Author.Tests.{eqb-true, eqb-false, eq-eqb, ltb-true, ltb-false, not-false, not-true}
-use lib.Dec.{eqb, ltb}
-use lib.ListN.{length, getD, set, length-set}
+use native.Mathlib.Decide.{ℕ-discrete}
+use borrow.Author.Tests.{eqb-true, eqb-false, eq-eqb}
+use lib.Dec.{eqb}
+use lib.ListN.{length, getD, length-set}
 use lib.Seq.{getD-set-same, getD-set-other}
-use Rattle.corner.specs.Corner.{next, previous, absent}
-use Rattle.table.specs.Slots.{relabel}
-use Rattle.fan.proofs.Fan.{Left, Conn, stay, conn-sym, conn-trans, conn-vertex, conn-live, Linked}
+use Rattle.corner.specs.Corner.{absent}
+use Rattle.fan.proofs.Fan.{Left, Conn, stay, conn-sym, conn-vertex, conn-live, Linked}
 use Rattle.fan.proofs.Relabel.{length-relabel, relabel-in, relabel-out}
 use Rattle.fan.proofs.Spread.{Settled, spread-linked, spread-new, spread-old}
+use Rattle.fan.proofs.Visits.{Covers}
 use Rattle.build.specs.Build.{Shared, mem, give, left, corners, vertices}
 
 -- the Bool test of membership
@@ -49,10 +49,9 @@ pub record Whole (nc room vroom : ℕ) (opp : ℕ → ℕ) (s : Shared) : Type 0
   pub home : (v : ℕ) → (corner s v ≡ absent) ⊎ ((corner s v < nc) × (vtx s (corner s v) ≡ v))
   pub has : (c : ℕ) → c < nc → corner s (vtx s c) ≢ absent
 
--- the ring of a corner is exactly its fan
-pub record Exact (nc : ℕ) (opp : ℕ → ℕ) (ring : ℕ → List ℕ) : Type 0 where
-  pub from : (c : ℕ) → c < nc → (d : ℕ) → List·Memᴰ d (ring c) → Conn (Left (λ d. d < nc) opp) c d
-  pub to : (c : ℕ) → c < nc → (d : ℕ) → Conn (Left (λ d. d < nc) opp) c d → List·Memᴰ d (ring c)
+-- each ring is exactly the fan of its corner
+abbrev pub Exact : (nc : ℕ) → (ℕ → ℕ) → (ℕ → List ℕ) → Type 0
+Exact nc opp ring = (c : ℕ) → c < nc → Covers (λ d. d < nc) opp nc c (ring c)
 
 -- the vertices of P are settled: each has one fan, that of its corner
 abbrev pub SettledAt : (nc : ℕ) → (ℕ → ℕ) → (ℕ → Type 0) → Shared → Type 0
@@ -69,8 +68,8 @@ module _ (nc room vroom : ℕ) (opp : ℕ → ℕ) (ring : ℕ → List ℕ) (in
   in-fan? c h d = by (mem d (ring c)) refl
     where
       by : (b : Bool) → mem d (ring c) ≡ b → Dec (Fan c d)
-      by true e = yes (E .from c h d (mem-true d (ring c) e))
-      by false e = no (λ q. mem-false d (ring c) e (E .to c h d q))
+      by true e = yes (E c h .from d (mem-true d (ring c) e))
+      by false e = no (λ q. mem-false d (ring c) e (E c h .to d q))
 
   -- a new vertex takes the fan of c, a corner of v outside the fan of v's corner
   module _ (v c : ℕ) (s : Shared) (W : Keeps s) (fits : s .nv < vroom) (hc : c < nc) (of : vtx s c ≡ v) (out : ¬ Fan (corner s v) c) where
@@ -85,11 +84,11 @@ module _ (nc room vroom : ℕ) (opp : ℕ → ℕ) (ring : ℕ → List ℕ) (in
 
     yes′ : (d : ℕ) → Fan c d → vtx g d ≡ u
     unfolding give
-    yes′ d q = relabel-in (ring c) u (s .cv) d 0 (omega (arith, W .cv-length, conn-live (W .linked) hc q)) (E .to c hc d q)
+    yes′ d q = relabel-in (ring c) u (s .cv) d 0 (omega (arith, W .cv-length, conn-live (W .linked) hc q)) (E c hc .to d q)
 
     no′ : (d : ℕ) → d < nc → ¬ Fan c d → vtx g d ≡ vtx s d
     unfolding give
-    no′ d h q = relabel-out (ring c) u (s .cv) d 0 (λ m. q (E .from c hc d m))
+    no′ d h q = relabel-out (ring c) u (s .cv) d 0 (λ m. q (E c hc .from d m))
 
     corner-new : corner g u ≡ c
     unfolding give
@@ -219,7 +218,7 @@ module _ (nc room vroom : ℕ) (opp : ℕ → ℕ) (ring : ℕ → List ℕ) (in
     left-false c s K e of = by (mem c (ring (corner s v))) refl
       where
         by : (b : Bool) → mem c (ring (corner s v)) ≡ b → Fan (corner s v) c
-        by true q = E .from (corner s v) (corner-in s (K .whole) (K .present)) c (mem-true c (ring (corner s v)) q)
+        by true q = E (corner s v) (corner-in s (K .whole) (K .present)) .from c (mem-true c (ring (corner s v)) q)
         by false q = absurd (true≢false (sym (rw (eq-eqb _ _ of, q) refl) ∙ e))
 
     record LeftOf (c : ℕ) (s : Shared) : Type 0 where
@@ -247,7 +246,7 @@ module _ (nc room vroom : ℕ) (opp : ℕ → ℕ) (ring : ℕ → List ℕ) (in
             let l : LeftOf c s = left-true c s e in
             let m : s .nv + 1 ≤ vroom = rw (give-nv c s) at r in
             let k : Scan c s = K (omega arith) in
-            scan-give c s hc (omega arith) k (l .of) (λ f. mem-false c (ring (corner s v)) (l .out) (E .to (corner s v) (corner-in s (k .whole) (k .present)) c f))
+            scan-give c s hc (omega arith) k (l .of) (λ f. mem-false c (ring (corner s v)) (l .out) (E (corner s v) (corner-in s (k .whole) (k .present)) .to c f))
         by false e r = scan-skip c s (K r) (left-false c s (K r) e)
 
     scan-all : (k c : ℕ) (s : Shared) → c + k ≡ nc → Fits (Scan c) s → Fits (Scan nc) (corners ring v k c s)

@@ -8,10 +8,11 @@ use lib.Dec.{eqb, ltb}
 use lib.Ieee.{Float}
 use lib.Ieee.Scale.{finite}
 use lib.ListN.{length, set, replicate}
-use Rattle.corner.specs.Corner.{absent, next, previous, turn}
-use Rattle.table.specs.Slots.{vertexAt, oppositeAt, cornerAt, nought, pointAt, withPoint, paired, relabel, three}
-use Rattle.table.specs.Table.{Table, table, cornerRoom, vertexRoom, shaped, Shaped}
+use Rattle.corner.specs.Corner.{absent, next, previous}
+use Rattle.table.specs.Slots.{vertexAt, cornerAt, nought, pointAt, withPoint, paired, relabel, three}
+use Rattle.table.specs.Table.{Table, table, blank, cornerRoom, vertexRoom, shaped, Shaped}
 use Rattle.table.specs.Rules.{WellFormed}
+use Rattle.ring.specs.Ring.{ring}
 
 -- What a build answers, how many faces it skipped, and the table that it leaves.
 pub record Outcome : Type 0 where
@@ -19,14 +20,13 @@ pub record Outcome : Type 0 where
   pub skipped : ℕ
   pub result : Table
 
--- "both counts 0 and every slot blank: vertex 0, opposite and corner u32::MAX, numbers 0.0, marks 0"
-abbrev pub blank : (rc rv : ℕ) → Table
-blank rc rv =
-    table (replicate rc 0) (replicate rc absent) (replicate rc 0) (replicate rv absent) (replicate rv 0) (replicate (3 * rv) nought) 0 0
+-- ... of these three
+abbrev pub built : ℕ → ℕ → Table → Outcome
+built a skipped t = record { answer = a; skipped = skipped; result = t }
 
 -- "A refusal other than 1 leaves" the blank table. "A refused build reports 0 skipped."
 abbrev pub refused : (rc rv : ℕ) → ℕ → Outcome
-refused rc rv a = record { answer = a; skipped = 0; result = blank rc rv }
+refused rc rv a = built a 0 (blank rc rv)
 
 -- ---- points
 
@@ -42,16 +42,23 @@ allFinite (x ∷ xs) = finite x && allFinite xs
 
 -- What the faces so far have made: the corners' vertices and opposites, the vertices' corners, the number of corners, and the number
 -- of faces skipped. All marks are still 0.
-pub record Kept : Type 0 where
+pub record SoFar : Type 0 where
   pub cv : List ℕ
   pub co : List ℕ
   pub vc : List ℕ
   pub nc : ℕ
   pub skipped : ℕ
 
--- no corner yet
-abbrev pub start : (rc rv : ℕ) → Kept
-start rc rv = record { cv = replicate rc 0; co = replicate rc absent; vc = replicate rv absent; nc = 0; skipped = 0 }
+-- no corner yet: the parts of a blank table
+abbrev pub start : (rc rv : ℕ) → SoFar
+start rc rv =
+    record {
+      cv = blank rc rv .cornerVertex;
+      co = blank rc rv .cornerOpposite;
+      vc = blank rc rv .vertexCorner;
+      nc = 0;
+      skipped = 0;
+    }
 
 -- "The edge opposite a corner runs from next's vertex to previous's vertex": does that of k run from x to y?
 unfoldable pub edgeAt : List ℕ → ℕ → ℕ → ℕ → Bool
@@ -62,7 +69,7 @@ unfoldable pub findEdge : List ℕ → ℕ → ℕ → ℕ → ℕ → ℕ
 findEdge cv x y zero i = absent
 findEdge cv x y (suc n) i = let r = findEdge cv x y n (suc i) in cond (edgeAt cv x y i) i r
 
-abbrev pub found : Kept → ℕ → ℕ → ℕ
+abbrev pub found : SoFar → ℕ → ℕ → ℕ
 found s x y = findEdge (s .cv) x y (s .nc) 0
 
 -- "an index not below the vertex count (2)"
@@ -74,19 +81,19 @@ abbrev pub repeated : ℕ → ℕ → ℕ → Bool
 repeated a b c = eqb a b || (eqb b c || eqb c a)
 
 -- "a directed edge already held by a kept face"
-abbrev pub holds : Kept → ℕ → ℕ → Bool
+abbrev pub holds : SoFar → ℕ → ℕ → Bool
 holds s x y = not (eqb (found s x y) absent)
 
-abbrev pub taken : Kept → ℕ → ℕ → ℕ → Bool
+abbrev pub taken : SoFar → ℕ → ℕ → ℕ → Bool
 taken s a b c = holds s b c || (holds s c a || holds s a b)
 
 -- "the face is skipped and counted, not refused"
-abbrev pub skip : Kept → Kept
+abbrev pub skip : SoFar → SoFar
 skip s = record { cv = s .cv; co = s .co; vc = s .vc; nc = s .nc; skipped = s .skipped + 1 }
 
 -- "Each new corner is paired with the corner whose edge runs the other way, if there is one. A vertex's corner is the last one made
 -- for it."
-unfoldable pub grow : Kept → ℕ → ℕ → ℕ → Kept
+unfoldable pub grow : SoFar → ℕ → ℕ → ℕ → SoFar
 grow s a b c =
     let n = s .nc in
     record {
@@ -99,10 +106,10 @@ grow s a b c =
 
 pub data Step : Type 0 where
   refuse : ℕ → Step
-  go : Kept → Step
+  go : SoFar → Step
 
 -- "For each face, in this order": 2, 3, skipped, "no room for three corners (6)"
-unfoldable pub face : (nv room : ℕ) → Kept → ℕ → ℕ → ℕ → Step
+unfoldable pub face : (nv room : ℕ) → SoFar → ℕ → ℕ → ℕ → Step
 face nv room s a b c =
     cond (known nv a b c)
     (cond (repeated a b c) (refuse 3)
@@ -110,46 +117,16 @@ face nv room s a b c =
     (cond (ltb room (s .nc + 3)) (refuse 6) (go (grow s a b c)))))
     (refuse 2)
 
-abbrev pub onStep : Step → (Kept → Step) → Step
+abbrev pub onStep : Step → (SoFar → Step) → Step
 onStep (refuse n) f = refuse n
 onStep (go s) f = f s
 
 -- "faces in triples; one or two indices left at the end are ignored"
-unfoldable pub faces : (nv room : ℕ) → Kept → List ℕ → Step
+unfoldable pub faces : (nv room : ℕ) → SoFar → List ℕ → Step
 faces nv room s [] = go s
 faces nv room s (a ∷ []) = go s
 faces nv room s (a ∷ b ∷ []) = go s
 faces nv room s (a ∷ b ∷ c ∷ fs) = onStep (face nv room s a b c) (λ t. faces nv room t fs)
-
--- ---- the fan of a corner, in the order of the ring lists. Every corner below the count is live here, so the walk reads opposites
--- alone.
-
--- one side of a walk: the corners after the first, and whether it ended at a border
-pub record Side : Type 0 where
-  pub visits : List ℕ
-  pub border : Bool
-
-abbrev pub stop : Bool → Side
-stop b = record { visits = []; border = b }
-
-abbrev pub more : ℕ → Side → Side
-more d s = record { visits = d ∷ s .visits; border = s .border }
-
--- the rest of a walk from c that began at c₀, with so many visits left
-unfoldable pub side : Bool → List ℕ → ℕ → ℕ → ℕ → Side
-side left co c₀ zero c = stop false
-side left co c₀ (suc n) c =
-    let o = oppositeAt co (turn left c) in
-    let d = turn left o in
-    let r = side left co c₀ n d in
-    cond (eqb o absent) (stop true) (cond (eqb d c₀) (stop false) (more d r))
-
--- the corner, those to its left and, if a border was met, those to its right
-unfoldable pub ringOf : List ℕ → ℕ → ℕ → List ℕ
-ringOf co n c =
-    let l = side true co c n c in
-    let r = side false co c n c in
-    cond (l .border) ((c ∷ l .visits) ++ r .visits) (c ∷ l .visits)
 
 -- ---- duplicates
 
@@ -165,12 +142,13 @@ abbrev pub mem : ℕ → List ℕ → Bool
 mem d [] = false
 mem d (x ∷ xs) = eqb d x || mem d xs
 
-module _ (ring : ℕ → List ℕ) where
+-- `fan` gives the corners of the fan of a corner
+module _ (fan : ℕ → List ℕ) where
   -- "a new vertex at the same point takes the least of them and its fan": at v's point, the corner c
   unfoldable pub give : ℕ → ℕ → Shared → Shared
   give v c s =
       record {
-        cv = relabel (ring c) (s .nv) (s .cv);
+        cv = relabel (fan c) (s .nv) (s .cv);
         vc = set (s .vc) (s .nv) c;
         vp = withPoint (s .vp) (s .nv) (pointAt (s .vp) v);
         nv = s .nv + 1;
@@ -178,7 +156,7 @@ module _ (ring : ℕ → List ℕ) where
 
   -- c is a corner of v outside the fan of v's corner
   unfoldable pub left : ℕ → ℕ → Shared → Bool
-  left v c s = eqb (vertexAt (s .cv) c) v && not (mem c (ring (cornerAt (s .vc) v)))
+  left v c s = eqb (vertexAt (s .cv) c) v && not (mem c (fan (cornerAt (s .vc) v)))
 
   -- "while corners are left": k corners from c on, ascending. One that is still left when its turn comes is the least of those left.
   unfoldable pub corners : ℕ → ℕ → ℕ → Shared → Shared
@@ -190,9 +168,10 @@ module _ (ring : ℕ → List ℕ) where
   vertices nc zero v s = s
   vertices nc (suc k) v s = vertices nc k (suc v) (cond (eqb (cornerAt (s .vc) v) absent) s (corners v nc 0 s))
 
-abbrev pub spread : ℕ → ℕ → List Float → Kept → Shared
+-- "Each other vertex, ascending": every corner below the count is live here, so the fans are the rings by opposites alone
+abbrev pub spread : ℕ → ℕ → List Float → SoFar → Shared
 spread rv nv points k =
-    vertices (ringOf (k .co) (k .nc)) (k .nc) nv 0 (record { cv = k .cv; vc = k .vc; vp = laid rv points; nv = nv })
+    vertices (ring (k .co) (k .nc)) (k .nc) nv 0 (record { cv = k .cv; vc = k .vc; vp = laid rv points; nv = nv })
 
 -- "a vertex without a corner is marked deleted": k vertices from i on. A new vertex has a corner, so it is the same before the
 -- duplicates and after them.
@@ -203,14 +182,10 @@ isolated vc (suc k) i m = isolated vc k (suc i) (cond (eqb (cornerAt vc i) absen
 -- ---- the whole call
 
 -- the corner slots of k as they are, with the vertices of s
-abbrev pub done : (rc rv : ℕ) → Kept → Shared → Outcome
+abbrev pub done : (rc rv : ℕ) → SoFar → Shared → Outcome
 done rc rv k s =
-    record {
-      answer = 0;
-      skipped = k .skipped;
-      result =
-          table (s .cv) (k .co) (replicate rc 0) (s .vc) (isolated (s .vc) (s .nv) 0 (replicate rv 0)) (s .vp) (s .nv) (k .nc);
-    }
+    built 0 (k .skipped)
+    (table (s .cv) (k .co) (replicate rc 0) (s .vc) (isolated (s .vc) (s .nv) 0 (replicate rv 0)) (s .vp) (s .nv) (k .nc))
 
 -- "If the duplicates don't fit, the build is refused (5)."
 unfoldable pub finish : (rc rv nv : ℕ) → List Float → Step → Outcome
@@ -228,7 +203,7 @@ build t points fs =
     cond (shaped t && eqb (length points % 3) 0)
     (cond (ltb rv nv) (refused rc rv 5)
     (cond (allFinite points) (finish rc rv nv points (faces nv rc (start rc rv) fs)) (refused rc rv 4)))
-    (record { answer = 1; skipped = 0; result = t })
+    (built 1 0 t)
 
 -- The promise, for every input: a finished build leaves a well-formed table.
 abbrev pub Finished : Outcome → Type 0

@@ -1,2 +1,3 @@
 -- The build of a table from points and faces.
 pub mod Build
+pub mod Ready

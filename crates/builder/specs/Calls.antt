@@ -1,39 +1,16 @@
--- What a call of the builder leaves, as an outcome of the build; and what its two inner functions find.
+-- What the two inner functions of the builder find.
 use Prim.Native.Nat.{ℕ, _*_, _≤_}
 use mathlib.Core.Path.{_≡_}
 use mathlib.Core.List.{List}
 use lib.Ieee.{Float}
 use lib.ListN.{length, replicate}
-use Rattle.corner.specs.Corner.{absent}
-use Rattle.table.specs.Slots.{nought, blanked}
-use Rattle.table.specs.Table.{table, maxCorners, maxVertices}
-use Rattle.table.specs.declared.Counts.{Counts}
-use Rattle.build.specs.Build.{Outcome}
-use Rattle.build.proofs.Ready.{Ready}
-use Rattle.builder_faces.specs.Steps.{kept}
-
-abbrev pub outcome : ℕ → ℕ → List ℕ → List ℕ → List ℕ → List ℕ → List ℕ → List Float → ℕ → ℕ → Outcome
-outcome a k cv co cm vc vm vp nv nc = record { answer = a; skipped = k; result = table cv co cm vc vm vp nv nc }
-
--- what a cleared table holds: every slot blank, and no slot used
-pub record Cleared (cv co cm vc vm : List ℕ) (vp : List Float) (cv′ co′ cm′ vc′ vm′ : List ℕ) (vp′ : List Float) (n : Counts) : Type 0 where
-  pub b0 : cv′ ≡ blanked 0 cv
-  pub b1 : co′ ≡ blanked absent co
-  pub b2 : cm′ ≡ blanked 0 cm
-  pub b3 : vc′ ≡ blanked absent vc
-  pub b4 : vm′ ≡ blanked 0 vm
-  pub b5 : vp′ ≡ blanked nought vp
-  pub noVertices : n .vertices ≡ 0
-  pub noCorners : n .corners ≡ 0
+use Rattle.table.specs.Table.{table, blank, maxCorners, maxVertices}
+use Rattle.build.specs.Ready.{Ready}
+use Rattle.builder_faces.specs.Steps.{soFar}
 
 -- a blank table with its points still to come, and room for them
 pub record Fresh (cv co cm vc vm : List ℕ) (vp ps : List Float) (rc rv nv : ℕ) : Type 0 where
-  pub f0 : cv ≡ replicate rc 0
-  pub f1 : co ≡ replicate rc absent
-  pub f2 : cm ≡ replicate rc 0
-  pub f3 : vc ≡ replicate rv absent
-  pub f4 : vm ≡ replicate rv 0
-  pub f5 : vp ≡ replicate (3 * rv) nought
+  pub empty : table cv co cm vc vm vp 0 0 ≡ blank rc rv
   pub corners : rc ≤ maxCorners
   pub rooms : rv ≤ maxVertices
   pub fits : nv ≤ rv
@@ -41,7 +18,7 @@ pub record Fresh (cv co cm vc vm : List ℕ) (vp ps : List Float) (rc rv nv : �
 
 -- where the duplicates begin: the faces are in, and all marks are 0
 pub record Begun (cv co cm vc vm : List ℕ) (vp : List Float) (n count room skipped : ℕ) : Type 0 where
-  pub ready : Ready count (length cm) room (kept cv co vc n skipped)
+  pub ready : Ready count (length cm) room (soFar cv co vc n skipped)
   pub marks : cm ≡ replicate (length cm) 0
   pub flags : vm ≡ replicate room 0
   pub points : length vp ≡ 3 * room

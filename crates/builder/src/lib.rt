@@ -4,10 +4,10 @@ ghost use mathlib.Core.Bool.{cond};
 ghost use mathlib.Core.List.{List};
 ghost use lib.Ieee.{Float};
 ghost use lib.ListN.{length};
-ghost use Rattle.table.specs.Table.{table};
-ghost use Rattle.build.specs.Build.{go, build as buildOf, finish as finishOf, faces as facesOf, start, laid};
-ghost use Rattle.builder_faces.specs.Steps.{kept};
-ghost use Rattle.builder.specs.Calls.{Begun, Cleared, Fresh, outcome};
+ghost use Rattle.table.specs.Table.{table, blank, Shaped};
+ghost use Rattle.build.specs.Build.{built, go, build as buildOf, finish as finishOf, faces as facesOf, start, laid};
+ghost use Rattle.builder_faces.specs.Steps.{soFar};
+ghost use Rattle.builder.specs.Calls.{Begun, Fresh};
 use table::Counts;
 
 // The answer, how many faces were skipped, and how much of the table is used.
@@ -26,8 +26,9 @@ fn clear(
     vm: &mut [u32],
     vp: &mut [f32],
 ) -> Counts
-    ensures { λ r. ⌜ Cleared (now (cv .entry)) (now (co .entry)) (now (cm .entry)) (now (vc .entry)) (now (vm .entry)) (now (vp .entry))
-        (now (cv .exit)) (now (co .exit)) (now (cm .exit)) (now (vc .exit)) (now (vm .exit)) (now (vp .exit)) r ⌝ }
+    requires { ⌜ Shaped (table (now cv) (now co) (now cm) (now vc) (now vm) (now vp) 0 0) ⌝ }
+    ensures { λ r. ⌜ table (now (cv .exit)) (now (co .exit)) (now (cm .exit)) (now (vc .exit)) (now (vm .exit)) (now (vp .exit)) (r .vertices) (r .corners)
+        ≡ blank (length (now (cm .entry))) (length (now (vm .entry))) ⌝ }
 {
     table::blank(cv, co, cm, vc, vm, vp);
     Counts {
@@ -52,8 +53,8 @@ fn finish(
 ) -> Built
     requires { ⌜ Begun (now cv) (now co) (now cm) (now vc) (now vm) (now vp) n count room skipped ⌝ }
     ensures { λ r. ⌜ ((points : List Float) → now (vp .entry) ≡ laid room points
-        → outcome (r .answer) (r .skipped) (now (cv .exit)) (now (co .exit)) (now (cm .exit)) (now (vc .exit)) (now (vm .exit)) (now (vp .exit)) (r .counts .vertices) (r .counts .corners)
-        ≡ finishOf (length (now (cm .entry))) room count points (go (kept (now (cv .entry)) (now (co .entry)) (now (vc .entry)) n skipped))) ⌝ }
+        → built (r .answer) (r .skipped) (table (now (cv .exit)) (now (co .exit)) (now (cm .exit)) (now (vc .exit)) (now (vm .exit)) (now (vp .exit)) (r .counts .vertices) (r .counts .corners))
+        ≡ finishOf (length (now (cm .entry))) room count points (go (soFar (now (cv .entry)) (now (co .entry)) (now (vc .entry)) n skipped))) ⌝ }
 {
     builder_fans::mark_fans(co, vc, cm, n, count);
     builder_fans::thread_left(cv, cm, vm, n);
@@ -94,7 +95,7 @@ fn add_all(
     count: u32,
 ) -> Built
     requires { ⌜ Fresh (now cv) (now co) (now cm) (now vc) (now vm) (now vp) (now points) corners room count ⌝ }
-    ensures { λ r. ⌜ outcome (r .answer) (r .skipped) (now (cv .exit)) (now (co .exit)) (now (cm .exit)) (now (vc .exit)) (now (vm .exit)) (now (vp .exit)) (r .counts .vertices) (r .counts .corners)
+    ensures { λ r. ⌜ built (r .answer) (r .skipped) (table (now (cv .exit)) (now (co .exit)) (now (cm .exit)) (now (vc .exit)) (now (vm .exit)) (now (vp .exit)) (r .counts .vertices) (r .counts .corners))
         ≡ finishOf corners room count (now (points .entry)) (facesOf count corners (start corners room) (now (faces .entry))) ⌝ }
 {
     builder_faces::add_vertices(vp, points);
@@ -135,7 +136,7 @@ pub fn build(
     points: &[f32],
     faces: &[u32],
 ) -> Built
-    ensures { λ r. ⌜ outcome (r .answer) (r .skipped) (now (cv .exit)) (now (co .exit)) (now (cm .exit)) (now (vc .exit)) (now (vm .exit)) (now (vp .exit)) (r .counts .vertices) (r .counts .corners)
+    ensures { λ r. ⌜ built (r .answer) (r .skipped) (table (now (cv .exit)) (now (co .exit)) (now (cm .exit)) (now (vc .exit)) (now (vm .exit)) (now (vp .exit)) (r .counts .vertices) (r .counts .corners))
         ≡ buildOf (table (now (cv .entry)) (now (co .entry)) (now (cm .entry)) (now (vc .entry)) (now (vm .entry)) (now (vp .entry)) (counts .vertices) (counts .corners)) (now (points .entry)) (now (faces .entry)) ⌝ }
 {
     if !table::is_shaped(cv.len(), co.len(), cm.len(), vc.len(), vm.len(), vp.len()) {

@@ -1,6 +1,6 @@
 -- The faces: the tests of one, what it leaves, and the loop over all of them. Assumes nothing.
 use mathlib.Core.Path.{_≡_, refl, ap, sym, _∙_, subst}
-use mathlib.Core.Bool.{Bool, true, false, cond}
+use mathlib.Core.Bool.{Bool, true, false, cond, not}
 use mathlib.Core.List.{List, [], _∷_}
 use Prim.Native.Nat.{ℕ, zero, suc, _+_, _-_, _≤_, _<_, _%_}
 use native.Mathlib.Omega.{arith}
@@ -10,10 +10,10 @@ use lib.Dec.{eqb, ltb}
 use lib.ListN.{length, getD, set, drop, length-drop}
 use lib.Seq.{drop-cons}
 use Rattle.table.specs.Slots.{paired, three}
-use Rattle.build.specs.Build.{Kept, skip, grow, Step, refuse, go, known, repeated, taken, face, onStep, faces}
+use Rattle.build.specs.Build.{SoFar, skip, grow, Step, refuse, go, known, repeated, taken, face, onStep, faces}
 use Rattle.builder_faces.specs.declared.Found.{Found}
 use Rattle.builder_faces.specs.Search.{sought, takenBy}
-use Rattle.builder_faces.specs.Steps.{kept, stepped}
+use Rattle.builder_faces.specs.Steps.{soFar, stepped}
 
 module _ (n a b c : ℕ) where
   pub known-c : a < n → b < n → ltb c n ≡ known n a b c
@@ -39,14 +39,14 @@ module _ (n a b c : ℕ) where
 -- where the search's answer is the build's
 module _ (nv room n k a b c : ℕ) (cv co vc : List ℕ) (f : Found) (is : f ≡ sought cv n a b c) (t : Bool) (tb : t ≡ takenBy (f .bc) (f .ca) (f .ab))
     (kn : known nv a b c ≡ true) (re : repeated a b c ≡ false) where
-  abbrev s : Kept
-  s = kept cv co vc n k
+  abbrev s : SoFar
+  s = soFar cv co vc n k
 
   same-taken : takenBy (f .bc) (f .ca) (f .ab) ≡ taken s a b c
   unfolding sought takenBy
   same-taken = rw is
 
-  pub face-skips : t ≡ true → go (kept cv co vc n (k + 1)) ≡ face nv room s a b c
+  pub face-skips : t ≡ true → go (soFar cv co vc n (k + 1)) ≡ face nv room s a b c
   unfolding face
   face-skips e = rw (kn, re, ← same-taken, ← tb, e)
 
@@ -56,22 +56,34 @@ module _ (nv room n k a b c : ℕ) (cv co vc : List ℕ) (f : Found) (is : f ≡
 
   pub face-grows : t ≡ false → n + 3 ≤ room → (cv′ co′ vc′ : List ℕ) → cv′ ≡ three cv n a b c
       → co′ ≡ paired (paired (paired co n (f .cb)) (n + 1) (f .ac)) (n + 2) (f .ba) → vc′ ≡ set (set (set vc a n) b (n + 1)) c (n + 2)
-      → go (kept cv′ co′ vc′ (n + 3) k) ≡ face nv room s a b c
+      → go (soFar cv′ co′ vc′ (n + 3) k) ≡ face nv room s a b c
   unfolding face grow sought
   face-grows e h cv′ co′ vc′ p q r = rw (kn, re, ← same-taken, ← tb, e, le-ltb room (n + 3) h) (rw (p, q, r, is))
 
-module _ (nv room : ℕ) (s : Kept) (a b c : ℕ) where
-  pub face-unknown : known nv a b c ≡ false → refuse 2 ≡ face nv room s a b c
+-- 2, then 3
+module _ (nv a b c w : ℕ) (k t : Bool) (kn : k ≡ known nv a b c) (re : t ≡ repeated a b c) (met : w ≡ cond (not k) 2 (cond t 3 0)) where
+  pub face-wrong : (room : ℕ) (s : SoFar) → (w ≡ 0 → ⊥) → stepped w s ≡ face nv room s a b c
   unfolding face
-  face-unknown e = rw e
+  face-wrong room s h = rw (← kn, ← re) (by k t met h)
+    where
+      by : (x y : Bool) → w ≡ cond (not x) 2 (cond y 3 0) → (w ≡ 0 → ⊥)
+          → stepped w s ≡ cond x (cond y (refuse 3) (cond (taken s a b c) (go (skip s)) (cond (ltb room (s .nc + 3)) (refuse 6) (go (grow s a b c))))) (refuse 2)
+      by false y e h = rw e
+      by true true e h = rw e
+      by true false e h = absurd (h e)
 
-  pub face-repeated : known nv a b c ≡ true → repeated a b c ≡ true → refuse 3 ≡ face nv room s a b c
-  unfolding face
-  face-repeated k e = rw (k, e)
+  -- neither
+  pub face-passed : w ≡ 0 → (known nv a b c ≡ true) × (repeated a b c ≡ false)
+  face-passed e = by k t kn re (sym met ∙ e)
+    where
+      by : (x y : Bool) → x ≡ known nv a b c → y ≡ repeated a b c → _≡_ {A = ℕ} (cond (not x) 2 (cond y 3 0)) 0 → (known nv a b c ≡ true) × (repeated a b c ≡ false)
+      by false y p q h = absurd (omega (arith, h))
+      by true true p q h = absurd (omega (arith, h))
+      by true false p q h = (sym p, sym q)
 
 -- ---- all faces
 
-module _ (nv room : ℕ) (s : Kept) (fs : List ℕ) (i : ℕ) where
+module _ (nv room : ℕ) (s : SoFar) (fs : List ℕ) (i : ℕ) where
   short : (l : List ℕ) → length l ≤ 2 → faces nv room s l ≡ go s
   unfolding faces
   short [] h = refl
@@ -99,12 +111,12 @@ module _ (nv room : ℕ) (s : Kept) (fs : List ℕ) (i : ℕ) where
           at3 = let z : suc (i + 2) ≡ i + 3 = omega arith in drop-cons fs (i + 2) 0 (omega arith) ∙ ap (λ (n : ℕ). getD fs (i + 2) 0 ∷ drop n fs) z
 
   -- a face that was refused ends it, one that was not goes on
-  pub faces-stop : (t : Step) (a : ℕ) → t ≡ face nv room s (getD fs i 0) (getD fs (i + 1) 0) (getD fs (i + 2) 0) → i + 2 < length fs → (r : Kept) → (a ≡ 0 → ⊥) → stepped a r ≡ t
+  pub faces-stop : (t : Step) (a : ℕ) → t ≡ face nv room s (getD fs i 0) (getD fs (i + 1) 0) (getD fs (i + 2) 0) → i + 2 < length fs → (r : SoFar) → (a ≡ 0 → ⊥) → stepped a r ≡ t
       → stepped a r ≡ faces nv room s (drop i fs)
   faces-stop t zero e h r n z = absurd (n refl)
   faces-stop t (suc a) e h r n z = sym (faces-more h ∙ ap (λ (u : Step). onStep u (λ k. faces nv room k (drop (i + 3) fs))) (sym (z ∙ e)))
 
-  pub faces-on : (a : ℕ) (r : Kept) → stepped a r ≡ face nv room s (getD fs i 0) (getD fs (i + 1) 0) (getD fs (i + 2) 0) → i + 2 < length fs → a ≡ 0
+  pub faces-on : (a : ℕ) (r : SoFar) → stepped a r ≡ face nv room s (getD fs i 0) (getD fs (i + 1) 0) (getD fs (i + 2) 0) → i + 2 < length fs → a ≡ 0
       → faces nv room r (drop (i + 3) fs) ≡ faces nv room s (drop i fs)
   faces-on zero r z h n = sym (faces-more h ∙ ap (λ (u : Step). onStep u (λ k. faces nv room k (drop (i + 3) fs))) (sym z))
   faces-on (suc a) r z h n = absurd (omega arith)
@@ -118,7 +130,7 @@ pub record Adding (nv room : ℕ) (fs cv₀ co₀ vc₀ cv co vc : List ℕ) (i 
   pub few : n ≤ room
   pub thirds : n % 3 ≡ 0
   pub small : k ≤ i
-  pub same : faces nv room (kept cv co vc n k) (drop i fs) ≡ faces nv room (kept cv₀ co₀ vc₀ 0 0) fs
+  pub same : faces nv room (soFar cv co vc n k) (drop i fs) ≡ faces nv room (soFar cv₀ co₀ vc₀ 0 0) fs
 
 pub adding-start : (nv room : ℕ) (fs cv co vc : List ℕ) → Adding nv room fs cv co vc cv co vc 0 0 0
 adding-start nv room fs cv co vc =
@@ -134,16 +146,16 @@ adding-start nv room fs cv co vc =
     }
 
 -- what a face that was not refused leaves of the counts
-record Counted (room : ℕ) (s t : Kept) : Type 0 where
+record Counted (room : ℕ) (s t : SoFar) : Type 0 where
   few : t .nc ≤ room
   thirds : t .nc % 3 ≡ 0
   skips : t .skipped ≤ s .skipped + 1
 
-abbrev OnGo : (Kept → Type 0) → Step → Type 0
+abbrev OnGo : (SoFar → Type 0) → Step → Type 0
 OnGo P (refuse a) = Unit {0}
 OnGo P (go t) = P t
 
-face-counted : (nv room : ℕ) (s : Kept) (a b c : ℕ) → s .nc ≤ room → s .nc % 3 ≡ 0 → OnGo (Counted room s) (face nv room s a b c)
+face-counted : (nv room : ℕ) (s : SoFar) (a b c : ℕ) → s .nc ≤ room → s .nc % 3 ≡ 0 → OnGo (Counted room s) (face nv room s a b c)
 unfolding face grow
 face-counted nv room s a b c h m = by (known nv a b c) (repeated a b c) (taken s a b c) (ltb room (s .nc + 3)) refl
   where
@@ -157,18 +169,18 @@ face-counted nv room s a b c h m = by (known nv a b c) (repeated a b c) (taken s
 
 module _ (nv room : ℕ) (fs cv₀ co₀ vc₀ cv co vc : List ℕ) (i n k : ℕ) (A : Adding nv room fs cv₀ co₀ vc₀ cv co vc i n k)
     (cv′ co′ vc′ : List ℕ) (a n′ k′ : ℕ)
-    (f : stepped a (kept cv′ co′ vc′ n′ k′) ≡ face nv room (kept cv co vc n k) (getD fs i 0) (getD fs (i + 1) 0) (getD fs (i + 2) 0))
+    (f : stepped a (soFar cv′ co′ vc′ n′ k′) ≡ face nv room (soFar cv co vc n k) (getD fs i 0) (getD fs (i + 1) 0) (getD fs (i + 2) 0))
     (h : i + 2 < length fs) where
-  pub adding-stop : (a ≡ 0 → ⊥) → stepped a (kept cv′ co′ vc′ n′ k′) ≡ faces nv room (kept cv₀ co₀ vc₀ 0 0) fs
-  adding-stop z = faces-stop nv room (kept cv co vc n k) fs i _ a refl h (kept cv′ co′ vc′ n′ k′) z f ∙ A .same
+  pub adding-stop : (a ≡ 0 → ⊥) → stepped a (soFar cv′ co′ vc′ n′ k′) ≡ faces nv room (soFar cv₀ co₀ vc₀ 0 0) fs
+  adding-stop z = faces-stop nv room (soFar cv co vc n k) fs i _ a refl h (soFar cv′ co′ vc′ n′ k′) z f ∙ A .same
 
-  counted : a ≡ 0 → Counted room (kept cv co vc n k) (kept cv′ co′ vc′ n′ k′)
+  counted : a ≡ 0 → Counted room (soFar cv co vc n k) (soFar cv′ co′ vc′ n′ k′)
   counted z =
       by a z
-      (subst (λ (t : Step). OnGo (Counted room (kept cv co vc n k)) t) (sym f) (face-counted nv room (kept cv co vc n k) _ _ _ (A .few) (A .thirds)))
+      (subst (λ (t : Step). OnGo (Counted room (soFar cv co vc n k)) t) (sym f) (face-counted nv room (soFar cv co vc n k) _ _ _ (A .few) (A .thirds)))
     where
-      by : (x : ℕ) → x ≡ 0 → OnGo (Counted room (kept cv co vc n k)) (stepped x (kept cv′ co′ vc′ n′ k′))
-          → Counted room (kept cv co vc n k) (kept cv′ co′ vc′ n′ k′)
+      by : (x : ℕ) → x ≡ 0 → OnGo (Counted room (soFar cv co vc n k)) (stepped x (soFar cv′ co′ vc′ n′ k′))
+          → Counted room (soFar cv co vc n k) (soFar cv′ co′ vc′ n′ k′)
       by zero e q = q
       by (suc x) e q = absurd (omega arith)
 
@@ -183,9 +195,9 @@ module _ (nv room : ℕ) (fs cv₀ co₀ vc₀ cv co vc : List ℕ) (i n k : ℕ
         few = counted z .few;
         thirds = counted z .thirds;
         small = omega (arith, A .small, counted z .skips);
-        same = faces-on nv room (kept cv co vc n k) fs i a (kept cv′ co′ vc′ n′ k′) f h z ∙ A .same;
+        same = faces-on nv room (soFar cv co vc n k) fs i a (soFar cv′ co′ vc′ n′ k′) f h z ∙ A .same;
       }
 
 pub adding-end : (nv room : ℕ) (fs cv₀ co₀ vc₀ cv co vc : List ℕ) (i n k : ℕ) → Adding nv room fs cv₀ co₀ vc₀ cv co vc i n k
-    → length fs - i ≤ 2 → stepped 0 (kept cv co vc n k) ≡ faces nv room (kept cv₀ co₀ vc₀ 0 0) fs
-adding-end nv room fs cv₀ co₀ vc₀ cv co vc i n k A h = sym (faces-end nv room (kept cv co vc n k) fs i h) ∙ A .same
+    → length fs - i ≤ 2 → stepped 0 (soFar cv co vc n k) ≡ faces nv room (soFar cv₀ co₀ vc₀ 0 0) fs
+adding-end nv room fs cv₀ co₀ vc₀ cv co vc i n k A h = sym (faces-end nv room (soFar cv co vc n k) fs i h) ∙ A .same

@@ -1,8 +1,8 @@
 -- One pass finds what six searches find. Assumes nothing.
 use mathlib.Core.Path.{_≡_, refl, ap, sym, _∙_}
-use mathlib.Core.Bool.{Bool, true, false, cond, not, _&&_, _||_, true≢false}
+use mathlib.Core.Bool.{Bool, true, false, cond, not, _&&_, _||_}
 use mathlib.Core.List.{List}
-use Prim.Native.Nat.{ℕ, zero, suc, _+_, _-_, _≤_, _<_, _%_}
+use Prim.Native.Nat.{ℕ, suc, _+_, _-_, _≤_, _<_, _%_}
 use native.Mathlib.Omega.{arith}
 use native.Mathlib.Nat.{sub-zero}
 use borrow.Author.Tests.{eq-eqb, ne-eqb, eqb-true}
@@ -11,6 +11,7 @@ use Rattle.corner.specs.Corner.{absent, next, previous}
 use Rattle.corner.proofs.Turns.{next-first, next-second, next-last, previous-first, previous-second, previous-last}
 use Rattle.table.specs.Slots.{vertexAt}
 use Rattle.build.specs.Build.{edgeAt, findEdge}
+use Rattle.build.proofs.Folded.{or-false}
 use Rattle.builder_faces.specs.declared.Found.{Found}
 use Rattle.builder_faces.specs.Search.{sought, noted, lookOf, faceLook, amongOf, touched, takenBy}
 
@@ -80,10 +81,6 @@ pub looked : (f : Found) (k tail head a b c bc ca ab cb ac ba : ℕ) → bc ≡ 
     → ba ≡ noted (f .ba) k tail head b a → record { bc = bc; ca = ca; ab = ab; cb = cb; ac = ac; ba = ba } ≡ lookOf f k tail head a b c
 unfolding lookOf
 looked f k tail head a b c bc ca ab cb ac ba p q r s t u = rw (p, q, r, s, t, u)
-
-or-false : (a b : Bool) → a || b ≡ false → (a ≡ false) × (b ≡ false)
-or-false true b e = absurd (true≢false e)
-or-false false b e = (refl, e)
 
 -- a tail that is none of the three changes nothing
 untouched : (f : Found) (k tail head a b c : ℕ) → amongOf tail a b c ≡ false → f ≡ lookOf f k tail head a b c

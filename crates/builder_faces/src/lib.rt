@@ -3,13 +3,14 @@
 // For each face there is one pass over the kept faces, which looks for its six directed edges at once: its own three, that must not be
 // held yet, and the same three the other way round, whose corners become opposites.
 ghost use mathlib.Core.Path.{_≡_};
-ghost use Prim.Native.Nat.{ℕ, _+_, _<_, _≤_, _%_};
+ghost use mathlib.Core.Bool.{cond};
+ghost use Prim.Native.Nat.{_+_, _<_, _≤_, _%_};
 ghost use lib.ListN.{length, set};
 ghost use lib.Seq.{sets};
 ghost use Rattle.table.specs.Slots.{paired, three};
 ghost use Rattle.build.specs.Build.{allFinite, face as faceOf, faces as facesOf, known as knownOf, repeated as repeatedOf};
 ghost use Rattle.builder_faces.specs.Search.{noted, lookOf, faceLook, touched, amongOf, sought, takenBy};
-ghost use Rattle.builder_faces.specs.Steps.{kept, stepped};
+ghost use Rattle.builder_faces.specs.Steps.{soFar, stepped};
 use corner::Corner;
 
 // ---- points
@@ -173,6 +174,19 @@ fn repeated(a: u32, b: u32, c: u32) -> bool
     c == a
 }
 
+// An index that is no vertex, 2, before two equal ones, 3; or 0.
+fn refusal(unknown: bool, twice: bool) -> u32
+    ensures { λ r. ⌜ r ≡ cond unknown 2 (cond twice 3 0) ⌝ }
+{
+    if unknown {
+        return 2;
+    }
+    if twice {
+        return 3;
+    }
+    0
+}
+
 // Does a kept face have one of the face's three directed edges?
 fn taken(bc: u32, ca: u32, ab: u32) -> bool
     ensures { λ r. ⌜ r ≡ takenBy bc ca ab ⌝ }
@@ -251,19 +265,13 @@ fn add_face(
     requires { ⌜ n ≤ room ⌝ }
     requires { ⌜ n % 3 ≡ 0 ⌝ }
     requires { ⌜ skipped + 1 < 18446744073709551616 ⌝ }
-    ensures { λ r. ⌜ stepped (r .answer) (kept (now (cv .exit)) (now (co .exit)) (now (vc .exit)) (r .corners) (r .skipped))
-        ≡ faceOf count room (kept (now (cv .entry)) (now (co .entry)) (now (vc .entry)) n skipped) a b c ⌝ }
+    ensures { λ r. ⌜ stepped (r .answer) (soFar (now (cv .exit)) (now (co .exit)) (now (vc .exit)) (r .corners) (r .skipped))
+        ≡ faceOf count room (soFar (now (cv .entry)) (now (co .entry)) (now (vc .entry)) n skipped) a b c ⌝ }
 {
-    if !known(count, a, b, c) {
+    let wrong = refusal(!known(count, a, b, c), repeated(a, b, c));
+    if wrong != 0 {
         return Added {
-            answer: 2,
-            corners: n,
-            skipped: skipped,
-        };
-    }
-    if repeated(a, b, c) {
-        return Added {
-            answer: 3,
+            answer: wrong,
             corners: n,
             skipped: skipped,
         };
@@ -303,8 +311,8 @@ pub fn add_faces(
     faces: &[u32],
 ) -> Added
     requires { ⌜ room < 4294967293 ⌝ }
-    ensures { λ r. ⌜ stepped (r .answer) (kept (now (cv .exit)) (now (co .exit)) (now (vc .exit)) (r .corners) (r .skipped))
-        ≡ facesOf count room (kept (now (cv .entry)) (now (co .entry)) (now (vc .entry)) 0 0) (now (faces .entry)) ⌝ }
+    ensures { λ r. ⌜ stepped (r .answer) (soFar (now (cv .exit)) (now (co .exit)) (now (vc .exit)) (r .corners) (r .skipped))
+        ≡ facesOf count room (soFar (now (cv .entry)) (now (co .entry)) (now (vc .entry)) 0 0) (now (faces .entry)) ⌝ }
 {
     let mut i: usize = 0;
     let mut n: u32 = 0;

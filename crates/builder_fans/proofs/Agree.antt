@@ -6,12 +6,12 @@ use mathlib.Core.List.{List, [], _∷_, List·Memᴰ, List·Memᴰ·head, List·
 use Prim.Native.Nat.{ℕ, zero, suc, _+_, _-_, _≤_, _<_}
 use native.Mathlib.Omega.{arith}
 use native.Mathlib.Decide.{ℕ-discrete, decLt}
-use borrow.Author.Tests.{eqb-true, eqb-false, eq-eqb, ne-eqb, lt-ltb, le-ltb}
+use borrow.Author.Tests.{eqb-true, eqb-false, eq-eqb, ne-eqb, le-ltb}
 use lib.Dec.{eqb, ltb}
 use lib.ListN.{length, getD, set, length-set, List·getD-eq-default}
 use lib.Seq.{getD-set-same, getD-set-other}
 use Rattle.corner.specs.Corner.{absent}
-use Rattle.table.specs.Slots.{relabel, pointAt, withPoint}
+use Rattle.table.specs.Slots.{relabel}
 use Rattle.fan.proofs.Relabel.{length-relabel, relabel-in, relabel-out}
 use Rattle.build.specs.Build.{Shared, mem, give, left, corners, vertices}
 use Rattle.build.proofs.Settle.{mem-true, mem-false, vtx, corner}

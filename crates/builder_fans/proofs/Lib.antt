@@ -1,5 +1,4 @@
 -- Laws of the loops over fans, and that the chains do what the build says.
-pub mod Labelling
 pub mod Runs
 pub mod Passes
 pub mod Agree

@@ -1,5 +1,5 @@
 -- The marks of the fans that are kept say what they should; with that, the code's pass is the build's. Assumes nothing.
-use mathlib.Core.Path.{_≡_, refl, ap, sym, _∙_, subst}
+use mathlib.Core.Path.{_≡_, refl, sym, _∙_, subst}
 use mathlib.Core.Logic.{_≢_, _⊎_, inl, inr}
 use mathlib.Core.Bool.{Bool, true, false, cond, not}
 use mathlib.Core.List.{List, List·Memᴰ}
@@ -99,7 +99,7 @@ module _ (n room vroom n₀ : ℕ) (opp : ℕ → ℕ) (ring : ℕ → List ℕ)
               at : (corner s w ≡ absent) ⊎ ((corner s w < n) × (vtx s (corner s w) ≡ w)) → ⊥
               at (inl z) = p z
               at (inr q) =
-                  let z : vtx s c ≡ w = conn-vertex (W .linked) (E .from (corner s w) (q .0) c i) ∙ q .1 in
+                  let z : vtx s c ≡ w = conn-vertex (W .linked) (E (corner s w) (q .0) .from c i) ∙ q .1 in
                   mem-false c (ring (corner s (vtx s c))) e (subst (λ (x : ℕ). List·Memᴰ c (ring (corner s x))) (sym z) i)
 
   long : length M ≡ room

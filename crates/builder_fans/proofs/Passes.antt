@@ -5,14 +5,14 @@ use mathlib.Core.List.{List, [], _∷_}
 use Prim.Native.Nat.{ℕ, zero, suc, _+_, _-_, _≤_, _<_}
 use native.Mathlib.Omega.{arith}
 use borrow.Author.Tests.{eq-eqb, ne-eqb, lt-ltb, le-ltb}
-use lib.Dec.{eqb, ltb}
+use lib.Dec.{eqb}
 use lib.Ieee.{Float}
 use lib.ListN.{length, getD, set}
 use Rattle.corner.specs.Corner.{absent}
 use Rattle.vertex.specs.declared.Point.{Point}
 use Rattle.table.specs.Slots.{relabel, pointAt, withPoint}
 use Rattle.build.specs.Build.{Shared, give, isolated}
-use Rattle.builder_fans.specs.Chains.{shared, Ended, Threads, threads, threadOf, threaded, chain, markOf, marked, stepOf, takes, vertexOf, settled, isolateOf}
+use Rattle.builder_fans.specs.Chains.{shared, Ended, threads, threadOf, threaded, chain, markOf, marked, stepOf, takes, vertexOf, settled, isolateOf}
 
 -- ---- the fans that are kept
 

@@ -2,19 +2,14 @@
 -- each vertex, and the chains are followed. The whole is `vertices` of the build (proofs/Agree.antt, `fast-plain`).
 use Prim.Native.Nat.{ℕ, zero, suc, _+_, _-_, _≤_, _<_}
 use mathlib.Core.Path.{_≡_}
-use mathlib.Core.Bool.{Bool, cond, _&&_}
+use mathlib.Core.Bool.{cond}
 use mathlib.Core.List.{List, [], _∷_}
 use lib.Dec.{eqb, ltb}
 use lib.Ieee.{Float}
 use lib.ListN.{getD, set}
 use Rattle.corner.specs.Corner.{absent}
 use Rattle.table.specs.Slots.{vertexAt, cornerAt, relabel}
-use Rattle.build.specs.Build.{Side, Shared, give}
-
--- what labelling one side of a fan leaves and answers
-pub record Labelled (s : Side) (v : ℕ) (l l′ : List ℕ) (b : Bool) : Type 0 where
-  pub list : l′ ≡ relabel (s .visits) v l
-  pub border : b ≡ s .border
+use Rattle.build.specs.Build.{Shared, give}
 
 abbrev pub shared : List ℕ → List ℕ → List Float → ℕ → Shared
 shared cv vc vp u = record { cv = cv; vc = vc; vp = vp; nv = u }
@@ -49,9 +44,9 @@ unfoldable pub chain : List ℕ → ℕ → ℕ → List ℕ
 chain link zero h = []
 chain link (suc k) h = let r = chain link k (getD link (h - 2) 0) in cond (ltb h 2) [] ((h - 2) ∷ r)
 
-module _ (ring : ℕ → List ℕ) where
+module _ (fan : ℕ → List ℕ) where
   unfoldable pub markOf : List ℕ → ℕ → List ℕ → List ℕ
-  markOf vc v m = cond (eqb (cornerAt vc v) absent) m (relabel (ring (cornerAt vc v)) 1 m)
+  markOf vc v m = cond (eqb (cornerAt vc v) absent) m (relabel (fan (cornerAt vc v)) 1 m)
 
   -- k vertices from v on: the fan of each one's corner is marked
   unfoldable pub marked : List ℕ → ℕ → ℕ → List ℕ → List ℕ
@@ -60,7 +55,7 @@ module _ (ring : ℕ → List ℕ) where
 
   -- a corner that is still v's gets a new vertex
   unfoldable pub stepOf : ℕ → ℕ → Shared → Shared
-  stepOf v c s = cond (eqb (vertexAt (s .cv) c) v) (give ring v c s) s
+  stepOf v c s = cond (eqb (vertexAt (s .cv) c) v) (give fan v c s) s
 
   unfoldable pub takes : ℕ → List ℕ → Shared → Shared
   takes v [] s = s

@@ -5,79 +5,28 @@
 // that is left, and that corner's mark the next one (as number + 2; 0 is none). So no pass goes over all corners for a vertex: the work
 // is that of the fans, of one pass over the corners and of one over the vertices.
 ghost use mathlib.Core.Path.{_≡_};
-ghost use mathlib.Core.Bool.{Bool, true, false};
-ghost use Prim.Native.Nat.{ℕ, _+_, _<_, _≤_};
-ghost use lib.ListN.{length, getD, set};
-ghost use Rattle.corner.specs.Corner.{absent, turn as turnOf};
-ghost use Rattle.table.specs.Slots.{relabel};
-ghost use Rattle.build.specs.Build.{side, ringOf, give as giveOf, isolated};
-ghost use Rattle.builder_fans.specs.Chains.{shared, marked, markOf, threads, threadOf, threaded, stepOf, chain, takes, vertexOf, settled, Labelled, Ended, isolateOf};
+ghost use Prim.Native.Nat.{_+_, _<_, _≤_};
+ghost use Rattle.ring.specs.Ring.{ring};
+ghost use Rattle.build.specs.Build.{give as giveOf, isolated};
+ghost use Rattle.builder_fans.specs.Chains.{shared, marked, markOf, threads, threadOf, threaded, stepOf, chain, takes, vertexOf, settled, Ended, isolateOf};
 use corner::Corner;
 use vertex::Vertex;
-
-// ---- the fan of a corner
-
-fn turn(c: u32, left: bool) -> u32
-    requires { ⌜ c < absent ⌝ }
-    ensures { λ r. ⌜ (r ≡ turnOf left c) × (r < absent) ⌝ }
-{
-    if left {
-        Corner(c).next().0
-    } else {
-        Corner(c).previous().0
-    }
-}
-
-// v at the corners of one side of the walk from c0, after c0. Tells whether the side ended at a border.
-fn label_side(left: bool, co: &[u32], c0: u32, room: u32, l: &mut [u32], v: u32) -> bool
-    requires { ⌜ c0 < absent ⌝ }
-    ensures { λ r. ⌜ Labelled (side left (now (co .entry)) c0 room c0) v (now (l .entry)) (now (l .exit)) r ⌝ }
-{
-    let mut c = c0;
-    let mut rest = room;
-    while rest > 0 {
-        let t = turn(c, left);
-        let o = table::at(co, t as usize, 4294967295);
-        if o == 4294967295 {
-            return true;
-        }
-        let d = turn(o, left);
-        if d == c0 {
-            return false;
-        }
-        table::put(l, d as usize, v);
-        c = d;
-        rest -= 1;
-    }
-    false
-}
-
-// v at every corner of the fan of c.
-fn label(co: &[u32], n: u32, c: u32, l: &mut [u32], v: u32)
-    requires { ⌜ c < absent ⌝ }
-    ensures { λ r. ⌜ now (l .exit) ≡ relabel (ringOf (now (co .entry)) n c) v (now (l .entry)) ⌝ }
-{
-    table::put(l, c as usize, v);
-    if label_side(true, co, c, n, l, v) {
-        label_side(false, co, c, n, l, v);
-    }
-}
 
 // ---- the corners that are left
 
 fn mark_one(co: &[u32], vc: &[u32], cm: &mut [u32], n: u32, v: u32)
-    ensures { λ r. ⌜ now (cm .exit) ≡ markOf (ringOf (now (co .entry)) n) (now (vc .entry)) v (now (cm .entry)) ⌝ }
+    ensures { λ r. ⌜ now (cm .exit) ≡ markOf (ring (now (co .entry)) n) (now (vc .entry)) v (now (cm .entry)) ⌝ }
 {
     let c = table::at(vc, v as usize, 4294967295);
     if c == 4294967295 {
         return;
     }
-    label(co, n, c, cm, 1);
+    ring::label(co, n, Corner(c), cm, 1);
 }
 
 // Marks the corners in the fan of their vertex's corner.
 pub fn mark_fans(co: &[u32], vc: &[u32], cm: &mut [u32], n: u32, count: u32)
-    ensures { λ r. ⌜ now (cm .exit) ≡ marked (ringOf (now (co .entry)) n) (now (vc .entry)) count 0 (now (cm .entry)) ⌝ }
+    ensures { λ r. ⌜ now (cm .exit) ≡ marked (ring (now (co .entry)) n) (now (vc .entry)) count 0 (now (cm .entry)) ⌝ }
 {
     let mut v: u32 = 0;
     while v < count {
@@ -115,11 +64,10 @@ pub fn thread_left(cv: &[u32], cm: &mut [u32], vm: &mut [u32], n: u32)
 
 // A new vertex u at v's point takes the corner c and its fan.
 fn give(co: &[u32], cv: &mut [u32], vc: &mut [u32], vp: &mut [f32], n: u32, v: u32, c: u32, u: u32)
-    requires { ⌜ c < absent ⌝ }
     ensures { λ r. ⌜ shared (now (cv .exit)) (now (vc .exit)) (now (vp .exit)) (u + 1)
-        ≡ giveOf (ringOf (now (co .entry)) n) v c (shared (now (cv .entry)) (now (vc .entry)) (now (vp .entry)) u) ⌝ }
+        ≡ giveOf (ring (now (co .entry)) n) v c (shared (now (cv .entry)) (now (vc .entry)) (now (vp .entry)) u) ⌝ }
 {
-    label(co, n, c, cv, u);
+    ring::label(co, n, Corner(c), cv, u);
     table::put(vc, u as usize, c);
     let p = table::position(vp, Vertex(v));
     table::set_position(vp, Vertex(u), p);
@@ -137,10 +85,9 @@ fn one_corner(
     c: u32,
     u: u32,
 ) -> u32
-    requires { ⌜ c < absent ⌝ }
     requires { ⌜ u ≤ room ⌝ }
     requires { ⌜ room < 4294967295 ⌝ }
-    ensures { λ r. ⌜ Ended room (stepOf (ringOf (now (co .entry)) n) v c (shared (now (cv .entry)) (now (vc .entry)) (now (vp .entry)) u))
+    ensures { λ r. ⌜ Ended room (stepOf (ring (now (co .entry)) n) v c (shared (now (cv .entry)) (now (vc .entry)) (now (vp .entry)) u))
         (now (cv .exit)) (now (vc .exit)) (now (vp .exit)) r ⌝ }
 {
     if table::at(cv, c as usize, 0) == v {
@@ -168,7 +115,7 @@ fn take_chain(
 ) -> u32
     requires { ⌜ count ≤ room ⌝ }
     requires { ⌜ room < 4294967295 ⌝ }
-    ensures { λ r. ⌜ Ended room (takes (ringOf (now (co .entry)) n) v (chain (now (cm .entry)) n first) (shared (now (cv .entry)) (now (vc .entry)) (now (vp .entry)) count))
+    ensures { λ r. ⌜ Ended room (takes (ring (now (co .entry)) n) v (chain (now (cm .entry)) n first) (shared (now (cv .entry)) (now (vc .entry)) (now (vp .entry)) count))
         (now (cv .exit)) (now (vc .exit)) (now (vp .exit)) r ⌝ }
 {
     let mut h = first;
@@ -204,7 +151,7 @@ fn one_vertex(
 ) -> u32
     requires { ⌜ u ≤ room ⌝ }
     requires { ⌜ room < 4294967295 ⌝ }
-    ensures { λ r. ⌜ Ended room (vertexOf (ringOf (now (co .entry)) n) (now (cm .entry)) (now (vm .entry)) n v (shared (now (cv .entry)) (now (vc .entry)) (now (vp .entry)) u))
+    ensures { λ r. ⌜ Ended room (vertexOf (ring (now (co .entry)) n) (now (cm .entry)) (now (vm .entry)) n v (shared (now (cv .entry)) (now (vc .entry)) (now (vp .entry)) u))
         (now (cv .exit)) (now (vc .exit)) (now (vp .exit)) r ⌝ }
 {
     let first = table::at(vm, v as usize, 0);
@@ -225,7 +172,7 @@ pub fn settle(
 ) -> u32
     requires { ⌜ count ≤ room ⌝ }
     requires { ⌜ room < 4294967295 ⌝ }
-    ensures { λ r. ⌜ Ended room (settled (ringOf (now (co .entry)) n) (now (cm .entry)) (now (vm .entry)) n count 0 (shared (now (cv .entry)) (now (vc .entry)) (now (vp .entry)) count))
+    ensures { λ r. ⌜ Ended room (settled (ring (now (co .entry)) n) (now (cm .entry)) (now (vm .entry)) n count 0 (shared (now (cv .entry)) (now (vc .entry)) (now (vp .entry)) count))
         (now (cv .exit)) (now (vc .exit)) (now (vp .exit)) r ⌝ }
 {
     let mut v: u32 = 0;

@@ -14,7 +14,7 @@ use Rattle.fan.proofs.Fan.{swingL, Linked, OneFan, left-vertex, left-back}
 use Rattle.fan.proofs.Walk.{it, Stop, border, closes, Walk}
 use Rattle.fan.proofs.Ring.{stuckL, On, closed-cover}
 use Rattle.fan.proofs.Visits as visits
-use Rattle.fan.proofs.Visits.{after, Distinct, Covers, Sound, leftward, ring-covers, covers-sound}
+use Rattle.fan.proofs.Visits.{after, Covers, Sound, leftward, ring-covers, covers-sound}
 use Rattle.fan.proofs.Tables.{table-linked, table-fan}
 use Rattle.ring.specs.Ring.{Side, side}
 use Rattle.ring.proofs.Exact.{bordered, side-is}

@@ -10,7 +10,7 @@ use borrow.Author.Tests.{eqb-true, eq-eqb, ne-eqb}
 use lib.Dec.{eqb}
 use Rattle.corner.specs.Corner.{absent, next, previous}
 use Rattle.corner.proofs.Turns.{next-next, next-previous, previous-next, previous-previous, next-face, previous-injective, in-face, InFace, itself, after, before}
-use Rattle.fan.proofs.Visits.{Distinct}
+use Rattle.fan.specs.Visits.{Distinct}
 use Rattle.fan.proofs.Fan.{Linked, face-previous, right-live, right-vertex}
 use Rattle.edge_collapse.specs.EdgeCollapse.{counted}
 use Rattle.edge_collapse.specs.Paper.{ThirdFace}

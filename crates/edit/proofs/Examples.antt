@@ -1,13 +1,11 @@
 -- Document 01, "Small meshes to compare": the marked edits, slot by slot. Assumes nothing.
-use Prim.Native.Nat.{ℕ, _*_}
 use mathlib.Core.Path.{_≡_, refl}
-use mathlib.Core.List.{List, [], _∷_, _++_}
+use mathlib.Core.List.{List, [], _∷_}
 use lib.Ieee.{Float, nan}
-use lib.ListN.{replicate}
 use Rattle.corner.specs.Corner.{absent, next, previous}
 use Rattle.vertex.specs.declared.Point.{Point}
 use Rattle.table.specs.Slots.{nought}
-use Rattle.table.specs.Table.{Table, table}
+use Rattle.table.specs.Table.{Table, table, extended}
 use Rattle.table.specs.Meshes.{meshA, meshB, meshT, one, two, three}
 use Rattle.ring.specs.Ring.{side, ring}
 use Rattle.edit.specs.Plans.{triangle, around}
@@ -15,19 +13,6 @@ use Rattle.edit.specs.Flip.{flipVertices, flipOpposites, flipCorners, fl
 use Rattle.edit.specs.SplitFace.{faceVertices, faceOpposites, faceCorners, splitFace}
 use Rattle.edit.specs.SplitEdge.{splitPoints, splitCorners, innerVertices, innerOpposites, splitInnerEdge, boundaryVertices, boundaryOpposites, splitBoundaryEdge, splitEdge}
 use Rattle.edit.specs.Collapse.{winged, either, collapseVertices, collapseOpposites, collapseMarks, collapseCorners, collapseEdge}
-
--- a table with blank slots on the end: c corners and v vertices more
-abbrev roomier : (c v : ℕ) → Table → Table
-roomier c v t =
-    table
-    (t .cornerVertex ++ replicate c 0)
-    (t .cornerOpposite ++ replicate c absent)
-    (t .cornerMark ++ replicate c 0)
-    (t .vertexCorner ++ replicate v absent)
-    (t .vertexMark ++ replicate v 0)
-    (t .vertexPoint ++ replicate (3 * v) nought)
-    (t .vertices)
-    (t .corners)
 
 -- two faces 0 1 2 and 0 2 1 back to back: pairs 0-3, 1-5, 2-4
 abbrev pillow : Table
@@ -62,7 +47,7 @@ module _ (x y z : Float) where
   b-flip = refl
 
   -- "A, split face 0: corners 0 1 3 1 2 3 2 0 3; pairs 0-4, 3-7, 1-6; vertex corners 0, 1, 4, 2."
-  a-split-face : splitFace (roomier 6 1 meshA) 0 at
+  a-split-face : splitFace (extended 6 1 meshA) 0 at
       ≡ table
       (0 ∷ 1 ∷ 3 ∷ 1 ∷ 2 ∷ 3 ∷ 2 ∷ 0 ∷ 3 ∷ [])
       (4 ∷ 6 ∷ absent ∷ 7 ∷ 0 ∷ absent ∷ 1 ∷ 3 ∷ absent ∷ [])
@@ -76,7 +61,7 @@ module _ (x y z : Float) where
   a-split-face = refl
 
   -- "A, split edge 0: corners 0 1 2 0 3 1, pair 2-4; vertex 3 has the old place of vertex 1."
-  a-split-edge : splitEdge (roomier 3 1 meshA) 0 at
+  a-split-edge : splitEdge (extended 3 1 meshA) 0 at
       ≡ table
       (0 ∷ 1 ∷ 2 ∷ 0 ∷ 3 ∷ 1 ∷ [])
       (absent ∷ absent ∷ 4 ∷ absent ∷ 2 ∷ absent ∷ [])
@@ -90,7 +75,7 @@ module _ (x y z : Float) where
   a-split-edge = refl
 
   -- "B, split edge 1: corners 0 1 2 0 2 3 1 4 2 4 3 2; pairs 1-5, 0-7, 3-9, 6-10; vertex corners 3, 1, 2, 5, 7."
-  b-split-edge : splitEdge (roomier 6 1 meshB) 1 at
+  b-split-edge : splitEdge (extended 6 1 meshB) 1 at
       ≡ table
       (0 ∷ 1 ∷ 2 ∷ 0 ∷ 2 ∷ 3 ∷ 1 ∷ 4 ∷ 2 ∷ 4 ∷ 3 ∷ 2 ∷ [])
       (7 ∷ 5 ∷ absent ∷ 9 ∷ absent ∷ 1 ∷ 10 ∷ 0 ∷ absent ∷ 3 ∷ 6 ∷ absent ∷ [])
@@ -105,7 +90,7 @@ module _ (x y z : Float) where
 
   -- "in an inner edge split where the moved vertex has only the two faces of that edge and no border, the Rust's second read must see the
   -- first write": vertex 1 moves, and the opposite of corner 4 is 8 by then. Pairs 0-3, 1-5, 2-7, 4-9, 6-10, 8-11
-  pillow-split-edge : splitEdge (roomier 6 1 pillow) 0 at
+  pillow-split-edge : splitEdge (extended 6 1 pillow) 0 at
       ≡ table
       (0 ∷ 1 ∷ 2 ∷ 0 ∷ 2 ∷ 1 ∷ 0 ∷ 3 ∷ 1 ∷ 3 ∷ 0 ∷ 1 ∷ [])
       (3 ∷ 5 ∷ 7 ∷ 0 ∷ 9 ∷ 1 ∷ 10 ∷ 2 ∷ 11 ∷ 4 ∷ 6 ∷ 8 ∷ [])

@@ -7,6 +7,7 @@ use Prim.Native.Nat.{ℕ, zero, suc, _+_, _-_, _≤_, _<_}
 use native.Mathlib.Omega.{arith}
 use native.Mathlib.Decide.{ℕ-discrete, decLt, decLe}
 use lib.ListN.{length, length-append}
+use Rattle.fan.specs.Visits.{Distinct}
 use Rattle.fan.proofs.Fan.{swingL, swingR, Left, Conn, stay, fore, back, Linked, OneFan, conn-live, conn-vertex, left-step, right-step}
 use Rattle.fan.proofs.Pigeon.{Clash, pigeon}
 use Rattle.fan.proofs.Walk.{Moves, it, Stop, border, closes, Walk, walk}
@@ -41,11 +42,6 @@ mem-after g i (suc k) d (List·Memᴰ·head e) = record { place = suc i; low = o
 mem-after g i (suc k) d (List·Memᴰ·tail m) =
     let w : Within g (suc i) k d = mem-after g (suc i) k d m in
     record { place = w .place; low = omega (arith, w .low); high = omega (arith, w .high); there = w .there }
-
--- no number twice
-abbrev pub Distinct : List ℕ → Type 0
-Distinct [] = Unit {0}
-Distinct (x ∷ l) = ¬ List·Memᴰ x l × Distinct l
 
 pub after-distinct : (g : ℕ → ℕ) (i k : ℕ) → ((a b : ℕ) → a < b → b ≤ i + k → g a ≢ g b) → Distinct (after g i k)
 after-distinct g i zero h = tt

@@ -7,7 +7,7 @@ use Rattle.corner.specs.Corner.{next, previous}
 use Rattle.vertex.specs.declared.Point.{Point}
 use Rattle.vertex.specs.Point.{pointOfBits}
 use Rattle.table.specs.Slots.{nought}
-use Rattle.table.specs.Table.{shapedBy, live}
+use Rattle.table.specs.Table.{extended, shapedBy, live}
 use Rattle.table.specs.Meshes.{meshA, meshB, meshT, one, two, three}
 use Rattle.ring.specs.Ring.{side, ring}
 use Rattle.edit.specs.Plans.{around}
@@ -23,7 +23,6 @@ use Rattle.rules.specs.Tests.{cornerTest, fanTest, pointTest, holds}
 use Rattle.checker.specs.First.{firstFrom, firstBad}
 use Rattle.checker.specs.Order.{firstOf, clean, ruled, verdictOf}
 use Rattle.script.specs.Run.{progress, commands, whole, fits, run}
-use Rattle.promises.specs.Rooms.{extended}
 
 -- the origin
 abbrev origin : Point

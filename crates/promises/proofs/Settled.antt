@@ -1,8 +1,8 @@
 -- What specs/Settled.antt promises: both outcomes are the definition's. Assumes nothing.
 use mathlib.Core.Path.{_≡_, sym, ap, _∙_}
-use Rattle.build.specs.Build.{Outcome}
+use Rattle.build.specs.Build.{Outcome, built}
 use Rattle.traversal.specs.Ring.{Outcome as Walked, outcome}
-use Rattle.promises.specs.Settled.{CheckSettled, built, BuildSettled, RingSettled, MoveSettled}
+use Rattle.promises.specs.Settled.{CheckSettled, BuildSettled, RingSettled, MoveSettled}
 
 pub check-settled : CheckSettled
 check-settled t v w x y = x ∙ sym y

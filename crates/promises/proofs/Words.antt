@@ -18,7 +18,7 @@ use Rattle.command.specs.Decode.{commandAt}
 use Rattle.command.specs.Answers.{first, when, targeted, roomFor, cornerTarget, notFinite, sameWings, collapseAnswer, flipAnswer, splitEdgeAnswer, splitFaceAnswer, answer}
 use Rattle.command.specs.Step.{step}
 use Rattle.script.specs.Run.{commands}
-use Rattle.promises.specs.Promises.{EachWord, OtherWords, Listed}
+use Rattle.promises.specs.Promises.{EachWord, OtherWords, AtMost14}
 
 -- commands from j on leave the words before j, and those after the last command
 before : (s : List ℕ) (n j : ℕ) (answers : List ℕ) (t : Table) (d : ℕ) → d < j → getD (commands s n j answers t .answers) d 0 ≡ getD answers d 0
@@ -86,18 +86,18 @@ room-most : (n r c s k : ℕ) → roomFor n r c s k ≤ 14
 unfolding roomFor
 room-most n r c s k = first-most _ _ (when-most (ltb r (n + 1)) 5 (omega arith)) (when-most (ltb s (c + k)) 6 (omega arith))
 
-pub listed : Listed
+pub at-most-14 : AtMost14
 unfolding answer collapseAnswer flipAnswer splitEdgeAnswer splitFaceAnswer
-listed t (Collapse c p) =
+at-most-14 t (Collapse c p) =
     first-most _ _ (corner-most t (c .0))
     (first-most _ _ (point-most p)
     (first-most _ _ (when-most (affectsBoundary t (c .0)) 11 (omega arith))
     (first-most _ _ (wings-most t (c .0)) (when-most (unsafe t (c .0)) 13 (omega arith)))))
-listed t (Flip c) =
+at-most-14 t (Flip c) =
     first-most _ _ (corner-most t (c .0)) (first-most _ _ (when-most (eqb (opposite t (c .0)) absent) 11 (omega arith)) (wings-most t (c .0)))
-listed t (SplitEdge c p) =
+at-most-14 t (SplitEdge c p) =
     first-most _ _ (corner-most t (c .0)) (first-most _ _ (point-most p) (room-most (t .vertices) (vertexRoom t) (t .corners) (cornerRoom t) _))
-listed t (SplitFace f p) =
+at-most-14 t (SplitFace f p) =
     first-most _ _ (target-most (ltb (f .0) (t .corners / 3)) (markAt (t .cornerMark) (firstCorner (f .0))))
     (first-most _ _ (point-most p) (room-most (t .vertices) (vertexRoom t) (t .corners) (cornerRoom t) 6))
-listed t Unknown = omega arith
+at-most-14 t Unknown = omega arith

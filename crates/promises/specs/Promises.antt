@@ -71,8 +71,8 @@ abbrev pub OtherWords : Type 0
 OtherWords = (t : Table) (s answers : List ℕ) (n i : ℕ) → n ≤ i → getD (commands s n 0 answers t .answers) i 0 ≡ getD answers i 0
 
 -- no command answers 15, "tangled walk", nor any number after 14
-abbrev pub Listed : Type 0
-Listed = (t : Table) (e : Edit) → answer t e ≤ 14
+abbrev pub AtMost14 : Type 0
+AtMost14 = (t : Table) (e : Edit) → answer t e ≤ 14
 
 -- ---- no walk inside a run is tangled, no index inside a run is out of range
 

@@ -3,11 +3,9 @@
 use Prim.Native.Nat.{ℕ, zero, suc, _+_, _*_, _/_, _≤_, _<_}
 use mathlib.Core.Path.{_≡_}
 use mathlib.Core.Logic.{_≢_}
-use mathlib.Core.List.{List, _++_}
-use lib.ListN.{length, getD, replicate}
-use Rattle.corner.specs.Corner.{absent}
-use Rattle.table.specs.Slots.{nought}
-use Rattle.table.specs.Table.{Table, table, Shaped}
+use mathlib.Core.List.{List}
+use lib.ListN.{length, getD}
+use Rattle.table.specs.Table.{Table, extended, Shaped}
 use Rattle.table.specs.Rules.{WellFormed}
 use Rattle.command.specs.Decode.{commandAt}
 use Rattle.command.specs.Answers.{answer}
@@ -69,17 +67,5 @@ WordsInMoreRoom = (t u : Table) → Shaped t → WellFormed t → Shaped u → R
     → getD (run t s answers .progress .answers) i 0 ≡ getD (run u s answers .progress .answers) i 0
 
 -- there are such tables: blank slots put on the end, c corners and v vertices
-abbrev pub extended : (c v : ℕ) → Table → Table
-extended c v t =
-    table
-    (t .cornerVertex ++ replicate c 0)
-    (t .cornerOpposite ++ replicate c absent)
-    (t .cornerMark ++ replicate c 0)
-    (t .vertexCorner ++ replicate v absent)
-    (t .vertexMark ++ replicate v 0)
-    (t .vertexPoint ++ replicate (3 * v) nought)
-    (t .vertices)
-    (t .corners)
-
 abbrev pub Extended : Type 0
 Extended = (t : Table) → Shaped t → WellFormed t → (c v : ℕ) → Roomier t (extended c v t)

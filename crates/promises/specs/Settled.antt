@@ -8,7 +8,7 @@ use Rattle.corner.specs.declared.Corner.{Corner}
 use Rattle.table.specs.Table.{Table}
 use Rattle.checker.specs.declared.Verdict.{Verdict}
 use Rattle.checker.specs.Order.{verdictOf}
-use Rattle.build.specs.Build.{Outcome, build}
+use Rattle.build.specs.Build.{built, build}
 use Rattle.traversal.specs.declared.Kind.{Kind}
 use Rattle.traversal.specs.declared.Ring.{Ring}
 use Rattle.traversal.specs.Ring.{outcome, ringOf}
@@ -20,9 +20,6 @@ abbrev pub CheckSettled : Type 0
 CheckSettled = (t : Table) (v w : Verdict) → v ≡ verdictOf t → w ≡ verdictOf t → v ≡ w
 
 -- a build: the answer, the faces skipped, and the table, slots and counts
-abbrev pub built : ℕ → ℕ → Table → Outcome
-built a skipped t = record { answer = a; skipped = skipped; result = t }
-
 abbrev pub BuildSettled : Type 0
 BuildSettled = (t : Table) (points : List Float) (faces : List ℕ) (a b k m : ℕ) (u v : Table)
     → built a k u ≡ build t points faces → built b m v ≡ build t points faces → (a ≡ b) × (k ≡ m) × (u ≡ v)

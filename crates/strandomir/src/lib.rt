@@ -6,8 +6,7 @@
 ghost use mathlib.Core.Path.{_≡_};
 ghost use mathlib.Core.Bool.{cond};
 ghost use Rattle.table.specs.Table.{table};
-ghost use Rattle.build.specs.Build.{build as buildOf};
-ghost use Rattle.builder.specs.Calls.{outcome};
+ghost use Rattle.build.specs.Build.{built, build as buildOf};
 ghost use Rattle.checker.specs.Order.{verdictOf};
 ghost use Rattle.script.specs.Run.{Outcome};
 ghost use Rattle.traversal.specs.Ring.{ringOf};
@@ -77,7 +76,7 @@ pub extern "C" fn strandomir_build(
     points: &[f32],
     faces: &[u32],
 ) -> Built
-    ensures { λ r. ⌜ outcome (r .answer) (r .skipped) (now (cv .exit)) (now (co .exit)) (now (cm .exit)) (now (vc .exit)) (now (vm .exit)) (now (vp .exit)) (r .vertices) (r .corners)
+    ensures { λ r. ⌜ built (r .answer) (r .skipped) (table (now (cv .exit)) (now (co .exit)) (now (cm .exit)) (now (vc .exit)) (now (vm .exit)) (now (vp .exit)) (r .vertices) (r .corners))
         ≡ buildOf (table (now (cv .entry)) (now (co .entry)) (now (cm .entry)) (now (vc .entry)) (now (vm .entry)) (now (vp .entry)) vertices corners)
         (now (points .entry)) (now (faces .entry)) ⌝ }
 {

@@ -3,9 +3,8 @@ use mathlib.Core.Path.{_≡_, refl, sym, _∙_}
 use mathlib.Core.Bool.{Bool, true, false, _&&_, false≢true}
 use Prim.Native.Nat.{ℕ, _*_, _≤_, _<_}
 use borrow.Author.Tests.{le-leb, lt-leb, eq-eqb, ne-eqb, eqb-true, leb-true}
-use lib.Dec.{eqb, leb}
-use lib.ListN.{length}
-use Rattle.table.specs.Table.{Table, shapedBy, shaped, Shaped, cornerRoom, vertexRoom, maxCorners, maxVertices}
+use lib.Dec.{eqb}
+use Rattle.table.specs.Table.{Table, shapedBy, shaped, Shaped, maxCorners, maxVertices}
 
 module _ (cv co cm vc vm vp : ℕ) where
   pub too-many-corners : maxCorners < cm → false ≡ shapedBy cv co cm vc vm vp

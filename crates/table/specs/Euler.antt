@@ -1,5 +1,5 @@
 -- Vertices, edges and faces. Document 01, "Well-formed", and demand 3.
-use Prim.Native.Nat.{ℕ, zero, suc, _+_, _*_, _/_}
+use Prim.Native.Nat.{ℕ, zero, suc, _+_, _/_}
 use mathlib.Core.Bool.{Bool, cond, _&&_, not}
 use mathlib.Core.Path.{_≡_}
 use lib.Dec.{eqb}

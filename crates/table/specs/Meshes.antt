@@ -1,5 +1,5 @@
 -- Document 01, "Small meshes to compare": A, B and T in tight rooms. Vertex v stands at (v, 0, 0).
-use mathlib.Core.List.{List, [], _∷_}
+use mathlib.Core.List.{[], _∷_}
 use lib.Ieee.{Float, ofBits, binary32}
 use Rattle.corner.specs.Corner.{absent}
 use Rattle.table.specs.Slots.{nought}

@@ -43,6 +43,6 @@ relabel (c ∷ cs) v l = relabel cs v (set l c v)
 abbrev pub three : List ℕ → (n a b c : ℕ) → List ℕ
 three l n a b c = set (set (set l n a) (n + 1) b) (n + 2) c
 
--- "every slot blank: vertex 0, opposite and corner u32::MAX, numbers 0.0, marks 0"
+-- v in every slot
 abbrev pub blanked : {A : Type 0} → A → List A → List A
 blanked v l = replicate (length l) v

@@ -2,13 +2,13 @@
 use Prim.Native.Nat.{ℕ, _+_, _*_, _<_, _≤_}
 use mathlib.Core.Bool.{Bool, _&&_}
 use mathlib.Core.Path.{_≡_}
-use mathlib.Core.List.{List}
+use mathlib.Core.List.{List, _++_}
 use lib.Dec.{eqb, ltb, leb}
 use lib.Ieee.{Float}
-use lib.ListN.{length, getD}
+use lib.ListN.{length, replicate}
 use Rattle.corner.specs.Corner.{absent}
 use Rattle.vertex.specs.declared.Point.{Point}
-use Rattle.table.specs.Slots.{vertexAt, oppositeAt, cornerAt, markAt, pointAt}
+use Rattle.table.specs.Slots.{vertexAt, oppositeAt, cornerAt, markAt, nought, pointAt}
 
 -- "Corner slot: vertex, opposite, deleted mark. Vertex slot: corner, a point, deleted mark. Two counts: vertex slots used, corner
 -- slots used." A point's three numbers stand in a row.
@@ -52,10 +52,6 @@ abbrev pub withVertexCorner : Table → List ℕ → Table
 withVertexCorner t l =
     table (t .cornerVertex) (t .cornerOpposite) (t .cornerMark) l (t .vertexMark) (t .vertexPoint) (t .vertices) (t .corners)
 
-abbrev pub withVertexMark : Table → List ℕ → Table
-withVertexMark t l =
-    table (t .cornerVertex) (t .cornerOpposite) (t .cornerMark) (t .vertexCorner) l (t .vertexPoint) (t .vertices) (t .corners)
-
 abbrev pub withVertexPoint : Table → List Float → Table
 withVertexPoint t l =
     table (t .cornerVertex) (t .cornerOpposite) (t .cornerMark) (t .vertexCorner) (t .vertexMark) l (t .vertices) (t .corners)
@@ -63,6 +59,23 @@ withVertexPoint t l =
 abbrev pub withCounts : Table → ℕ → ℕ → Table
 withCounts t nv nc =
     table (t .cornerVertex) (t .cornerOpposite) (t .cornerMark) (t .vertexCorner) (t .vertexMark) (t .vertexPoint) nv nc
+
+-- "both counts 0 and every slot blank: vertex 0, opposite and corner u32::MAX, numbers 0.0, marks 0", with room for c corners and v vertices
+abbrev pub blank : (c v : ℕ) → Table
+blank c v = table (replicate c 0) (replicate c absent) (replicate c 0) (replicate v absent) (replicate v 0) (replicate (3 * v) nought) 0 0
+
+-- the same table with blank slots on the end, c corners and v vertices more
+abbrev pub extended : (c v : ℕ) → Table → Table
+extended c v t =
+    table
+    (t .cornerVertex ++ blank c v .cornerVertex)
+    (t .cornerOpposite ++ blank c v .cornerOpposite)
+    (t .cornerMark ++ blank c v .cornerMark)
+    (t .vertexCorner ++ blank c v .vertexCorner)
+    (t .vertexMark ++ blank c v .vertexMark)
+    (t .vertexPoint ++ blank c v .vertexPoint)
+    (t .vertices)
+    (t .corners)
 
 -- "Room for at most 65,535 vertices and 196,605 corners, in memory that the caller lends."
 abbrev pub maxVertices : ℕ

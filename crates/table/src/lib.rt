@@ -4,9 +4,9 @@
 // else 0) and a write does nothing, so that no caller owes a bound; on a well-formed table no index is ever past the end.
 ghost use mathlib.Core.Path.{_≡_};
 ghost use Prim.Native.Nat.{_+_, _*_};
-ghost use lib.ListN.{length, getD, set};
+ghost use lib.ListN.{getD, set};
 ghost use Rattle.corner.specs.Corner.{absent};
-ghost use Rattle.table.specs.Slots.{vertexAt, oppositeAt, cornerAt, markAt, nought, pointAt, withPoint, paired, three, blanked};
+ghost use Rattle.table.specs.Slots.{vertexAt, oppositeAt, cornerAt, nought, pointAt, withPoint, paired, three, blanked};
 ghost use Rattle.table.specs.Table.{shapedBy, live};
 use corner::Corner;
 use vertex::Point;

@@ -19,13 +19,13 @@ use Rattle.table.proofs.Shape.{shaped-true}
 use Rattle.fan.proofs.Fan.{swingL, swingR, Left, Conn, Linked, OneFan, face-previous}
 use Rattle.fan.proofs.Walk.{it, Stop, border, closes, Walk}
 use Rattle.fan.proofs.Ring.{stuckL, stuckR, open-right}
-use Rattle.fan.proofs.Visits.{after, length-after, Distinct, Covers, Sound, w, v, leftward, rightward, ring-covers, fan-covers, total, covers-sound}
+use Rattle.fan.proofs.Visits.{after, length-after, Covers, Sound, w, v, leftward, rightward, ring-covers, fan-covers, total, covers-sound}
 use Rattle.fan.proofs.Tables.{table-linked, table-fan}
 use Rattle.traversal.specs.Walk as Specs
 use Rattle.traversal.specs.Walk.{faceLive, swing, Side, stop, more, side, leftOf, rightOf, tangled, closed, open′, afterLeft, afterRight, walk, visits}
 use Rattle.traversal.specs.Lists.{entries}
 use Rattle.traversal.specs.Ring.{listed, refused, walked, usedCorners, usedVertices, walkOf, ringOf}
-use Rattle.traversal.specs.Promises.{VisitsBounded, NeverTangled, NoneTwice, Exact, VisitsExact}
+use Rattle.traversal.specs.Promises.{VisitsBounded, NeverTangled, Exact, VisitsExact}
 use Rattle.traversal.proofs.Answers.{visits-bound}
 use Rattle.traversal.proofs.Steps.{lives-face, swing-border, swing-to, side-border, side-closed, side-more}
 use Rattle.traversal.specs.declared.Kind.{Kind}
@@ -240,16 +240,12 @@ module _ (t : Table) (S : Shaped t) (W : WellFormed t) where
 pub never-15 : NeverTangled
 never-15 t S W kind v list = ring-never-15 t S W kind v list
 
-none-twice : (l : List ℕ) → Distinct l → NoneTwice l
-none-twice [] d = tt
-none-twice (x ∷ l) d = (d .0, none-twice l (d .1))
-
 pub visits-exact : VisitsExact
 visits-exact t S W v h =
     record {
       only = vertex-visits t S W v h;
       all = visits-vertex t S W v h;
-      once = none-twice (visits (walkOf t v)) (vertex-sound t S W v h .distinct);
+      once = vertex-sound t S W v h .distinct;
     }
 
 listed-bound : (m n : ℕ) (es list : List ℕ) → m ≤ n → listed m es list .visited ≤ n

@@ -2,9 +2,10 @@
 use Prim.Native.Nat.{ℕ, _≤_}
 use mathlib.Core.Path.{_≡_}
 use mathlib.Core.Logic.{_≢_}
-use mathlib.Core.List.{List, [], _∷_, List·Memᴰ}
+use mathlib.Core.List.{List, List·Memᴰ}
 use Rattle.table.specs.Table.{Table, Shaped, Live, LiveVertex, vertex}
 use Rattle.table.specs.Rules.{WellFormed}
+use Rattle.fan.specs.Visits.{Distinct}
 use Rattle.traversal.specs.Walk.{visits}
 use Rattle.traversal.specs.Ring.{usedCorners, walkOf, ringOf}
 use Rattle.traversal.specs.declared.Kind.{Kind}
@@ -18,14 +19,10 @@ abbrev pub NeverTangled : Type 0
 NeverTangled = (t : Table) → Shaped t → WellFormed t → (kind : Kind) (v : ℕ) (list : List ℕ) → ringOf kind v t list .answer ≢ 15
 
 -- ".. and the visits are then exactly the corners of that vertex", none twice
-abbrev pub NoneTwice : List ℕ → Type 0
-NoneTwice [] = Unit {0}
-NoneTwice (x ∷ l) = ¬ List·Memᴰ x l × NoneTwice l
-
 pub record Exact (t : Table) (v : ℕ) : Type 0 where
   pub only : (d : ℕ) → List·Memᴰ d (visits (walkOf t v)) → Live t d × (vertex t d ≡ v)
   pub all : (d : ℕ) → Live t d → vertex t d ≡ v → List·Memᴰ d (visits (walkOf t v))
-  pub once : NoneTwice (visits (walkOf t v))
+  pub once : Distinct (visits (walkOf t v))
 
 abbrev pub VisitsExact : Type 0
 VisitsExact = (t : Table) → Shaped t → WellFormed t → (v : ℕ) → LiveVertex t v → Exact t v

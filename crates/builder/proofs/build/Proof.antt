@@ -16,7 +16,7 @@ returns-2 : tie.Need-returns-2
 returns-2 c = build-thirds _ _ _ _ _ _ _ _ _ _ _ (c .before .before .is-shaped .ensures) (not-false _ (c .before .if1 .left)) (c .if2 .taken)
 
 clear-requires : tie.Need-clear-requires
-clear-requires c κs = search needs
+clear-requires c κs = let a = c .before .before .before .before .before .before .before .before .before .before .before .before .before .before .before .before .before .args in S (now (a .cv)) (now (a .co)) (now (a .cm)) (now (a .vc)) (now (a .vm)) (now (a .vp)) (now (a .points)) (now (a .faces)) 0 0 _ (c .before .before .before .before .before .before .before .before .is-shaped .ensures) (not-false _ (c .before .before .before .before .before .before .before .if1 .left))
 
 all-finite-requires : tie.Need-all-finite-requires
 all-finite-requires c κs = search needs

@@ -1,6 +1,6 @@
 use borrow.Author.Needs.{needs}
 use denote.Ref.{now}
-use Rattle.build.specs.Build.{ringOf}
+use Rattle.ring.specs.Ring.{ring}
 use Rattle.builder_fans.proofs.Passes.{given}
 use Rattle.builder_fans.proofs.give.Statement.{statement}
 use Rattle.builder_fans.proofs.give.Tie as tie
@@ -27,7 +27,7 @@ same-length-3 : tie.Need-same-length-3
 same-length-3 c = search needs
 
 returns : tie.Need-returns
-returns c = let a = c .before .before .before .before .before .before .before .before .before .before .before .before .before .before .before .before .before .before .args in given (ringOf (now (a .co)) (a .n)) _ _ _ _ _ _ _ _ _ _ (c .before .before .before .before .before .before .before .before .before .before .before .before .label .ensures) (c .before .before .before .before .before .before .before .before .put .ensures) (c .before .before .before .before .position .ensures) (c .before .before .set-position .ensures)
+returns c = let a = c .before .before .before .before .before .before .before .before .before .before .before .before .before .before .before .before .before .before .args in given (ring (now (a .co)) (a .n)) _ _ _ _ _ _ _ _ _ _ (c .before .before .before .before .before .before .before .before .before .before .before .before .label .ensures) (c .before .before .before .before .before .before .before .before .put .ensures) (c .before .before .before .before .position .ensures) (c .before .before .set-position .ensures)
 
 pub give-spec : {M : Type 1} → statement M
 give-spec =

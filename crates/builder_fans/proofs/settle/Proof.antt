@@ -2,14 +2,14 @@ use Prim.Native.Nat.{_-_}
 use native.Mathlib.Omega.{arith}
 use borrow.Author.Needs.{needs}
 use Rattle.builder_fans.specs.Chains.{shared, vertexOf, settled}
-use Rattle.build.specs.Build.{ringOf}
+use Rattle.ring.specs.Ring.{ring}
 use Rattle.builder_fans.proofs.Passes.{settled-zero, settled-suc, vertex-grows}
 use Rattle.builder_fans.proofs.Runs.{Running, running-start, running-full, running-on, running-end}
 use Rattle.builder_fans.proofs.settle.Statement.{statement}
 use Rattle.builder_fans.proofs.settle.Tie as tie
 
 abbrev Inv-loop : tie.InvT-loop
-Inv-loop co cm vm cv₀ vc₀ vp₀ n room count v₀ u₀ cv vc vp v u = Running (vertexOf (ringOf co n) cm vm n) (settled (ringOf co n) cm vm n) (settled-zero (ringOf co n) cm vm n) (settled-suc (ringOf co n) cm vm n) (vertex-grows (ringOf co n) cm vm n) count room (settled (ringOf co n) cm vm n count 0 (shared cv₀ vc₀ vp₀ count)) cv₀ vc₀ cv vc vp₀ vp v u
+Inv-loop co cm vm cv₀ vc₀ vp₀ n room count v₀ u₀ cv vc vp v u = Running (vertexOf (ring co n) cm vm n) (settled (ring co n) cm vm n) (settled-zero (ring co n) cm vm n) (settled-suc (ring co n) cm vm n) (vertex-grows (ring co n) cm vm n) count room (settled (ring co n) cm vm n count 0 (shared cv₀ vc₀ vp₀ count)) cv₀ vc₀ cv vc vp₀ vp v u
 
 abbrev μ-loop : tie.MeasureT-loop
 μ-loop co cm vm cv₀ vc₀ vp₀ n room count v₀ u₀ cv vc vp v u = count - v

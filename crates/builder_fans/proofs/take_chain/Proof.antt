@@ -2,13 +2,13 @@ use mathlib.Core.Path.{refl}
 use native.Mathlib.Omega.{arith}
 use borrow.Author.Needs.{needs}
 use Rattle.builder_fans.specs.Chains.{shared, chain, takes}
-use Rattle.build.specs.Build.{ringOf}
+use Rattle.ring.specs.Ring.{ring}
 use Rattle.builder_fans.proofs.Passes.{Taking, taking-stop, taking-out, taking-full, taking-on}
 use Rattle.builder_fans.proofs.take_chain.Statement.{statement}
 use Rattle.builder_fans.proofs.take_chain.Tie as tie
 
 abbrev Inv-loop : tie.InvT-loop
-Inv-loop co cm cv₀ vc₀ vp₀ n room v first count h₀ rest₀ u₀ cv vc vp h rest u = Taking (ringOf co n) v cm room (takes (ringOf co n) v (chain cm n first) (shared cv₀ vc₀ vp₀ count)) cv₀ vc₀ cv vc vp₀ vp h rest u
+Inv-loop co cm cv₀ vc₀ vp₀ n room v first count h₀ rest₀ u₀ cv vc vp h rest u = Taking (ring co n) v cm room (takes (ring co n) v (chain cm n first) (shared cv₀ vc₀ vp₀ count)) cv₀ vc₀ cv vc vp₀ vp h rest u
 
 abbrev μ-loop : tie.MeasureT-loop
 μ-loop co cm cv₀ vc₀ vp₀ n room v first count h₀ rest₀ u₀ cv vc vp h rest u = rest
@@ -29,7 +29,7 @@ returns : tie.Need-returns Inv-loop μ-loop
 returns c = taking-stop _ _ _ _ _ _ _ _ _ _ _ _ _ _ (c .before .before .loop .inv) (c .if1 .taken)
 
 one-corner-requires : tie.Need-one-corner-requires Inv-loop μ-loop
-one-corner-requires c κs = let k = c .before .before .before .before .before .loop .inv in (omega (arith, k .small), (k .few, omega arith))
+one-corner-requires c κs = let k = c .before .before .before .before .before .loop .inv in (k .few, omega arith)
 
 same-length-4 : tie.Need-same-length-4 Inv-loop μ-loop
 same-length-4 c = search needs

@@ -1,7 +1,7 @@
 use Rattle.table.proofs.Lists.{any-default}
 use Rattle.table.specs.Slots.{nought}
 use lib.ListN.{List·getD-eq-default}
-use lib.Ieee.{ofBits, nanBits}
+use lib.Ieee.{nanBits}
 use mathlib.Core.Path.{sym}
 use denote.Ref.{now}
 use borrow.Author.Needs.{needs}

@@ -1,0 +1,2 @@
+-- What is said of a walk's visits.
+pub mod Visits
