@@ -14,7 +14,7 @@ use Rattle.table.specs.Rules.{WellFormed}
 use Rattle.fan.proofs.Fan.{Linked, face-previous}
 use Rattle.fan.proofs.Tables.{table-linked}
 use Rattle.ring.specs.Ring.{side}
-use Rattle.edge_collapse.specs.EdgeCollapse.{meetsBorder, neighbours, timesIn, commonIn, affectsBoundary, ringOf, unsafe}
+use Rattle.edge_collapse.specs.EdgeCollapse.{meetsBorder, neighbours, timesIn, commonIn, affectsBoundary, neighbourRing, unsafe}
 use Rattle.edge_collapse.specs.Paper.{BorderEdge, ThirdFace}
 use Rattle.edge_collapse.proofs.Third.{third-twice, twice-third}
 use Rattle.edge_collapse.proofs.Closed.{Bare, meets-bare, ClosedRing, shut-closed}
@@ -94,21 +94,21 @@ module _ (t : Table) (Z : Shaped t) (W : WellFormed t) (c : ℕ) (l : Live t c) 
     closed d h k = R .right-there d h (k ∙ sym home)
 
     -- 13's third face: the deleted vertex twice in the kept one's ring
-    pub third-counted : ThirdFace (Live t) (opposite t) (vertex t) c → 1 < timesIn (ringOf t kept) lost
+    pub third-counted : ThirdFace (Live t) (opposite t) (vertex t) c → 1 < timesIn (neighbourRing t kept) lost
     unfolding timesIn neighbours
     third-counted f =
         third-twice L c l inner closed (corner t kept ∷ side true (t .cornerOpposite) (corner t kept) (t .corners) (corner t kept) .visits) (R .sound .distinct)
         (λ d m. (R .sound .from d m .0, R .sound .from d m .1 ∙ home)) (λ d h k. R .sound .to d h (k ∙ sym home)) f
 
-    pub counted-third : 1 < timesIn (ringOf t kept) lost → ThirdFace (Live t) (opposite t) (vertex t) c
+    pub counted-third : 1 < timesIn (neighbourRing t kept) lost → ThirdFace (Live t) (opposite t) (vertex t) c
     unfolding timesIn neighbours
     counted-third h =
         twice-third L c l inner closed (corner t kept ∷ side true (t .cornerOpposite) (corner t kept) (t .corners) (corner t kept) .visits) (R .sound .distinct)
         (λ d m. (R .sound .from d m .0, R .sound .from d m .1 ∙ home)) (λ d h k. R .sound .to d h (k ∙ sym home)) h
 
     -- 13 isn't answered: no third face, and exactly two common neighbours
-    pub safe : unsafe t c ≡ false → (ThirdFace (Live t) (opposite t) (vertex t) c → ⊥) × (commonIn (ringOf t kept) (ringOf t lost) ≡ 2)
+    pub safe : unsafe t c ≡ false → (ThirdFace (Live t) (opposite t) (vertex t) c → ⊥) × (commonIn (neighbourRing t kept) (neighbourRing t lost) ≡ 2)
     unfolding unsafe
     safe h =
-        let p = or-false (ltb 1 (timesIn (ringOf t kept) lost)) (not (eqb (commonIn (ringOf t kept) (ringOf t lost)) 2)) h in
-        (λ f. false≢true (sym (p .0) ∙ lt-ltb 1 (timesIn (ringOf t kept) lost) (third-counted f)), eqb-true _ 2 (not-false _ (p .1)))
+        let p = or-false (ltb 1 (timesIn (neighbourRing t kept) lost)) (not (eqb (commonIn (neighbourRing t kept) (neighbourRing t lost)) 2)) h in
+        (λ f. false≢true (sym (p .0) ∙ lt-ltb 1 (timesIn (neighbourRing t kept) lost) (third-counted f)), eqb-true _ 2 (not-false _ (p .1)))

@@ -34,13 +34,13 @@ affectsBoundary t c =
     || meetsBorder (t .cornerOpposite) (t .corners) (corner t (vertex t (previous c)))
 
 -- the ring of a vertex's neighbours
-abbrev pub ringOf : Table → ℕ → List ℕ
-ringOf t v = neighbours (t .cornerVertex) (t .cornerOpposite) (t .corners) (corner t v)
+abbrev pub neighbourRing : Table → ℕ → List ℕ
+neighbourRing t v = neighbours (t .cornerVertex) (t .cornerOpposite) (t .corners) (corner t v)
 
 -- not is_topologically_safe: "13 if a third live face holds both end vertices, or if the number of entries in the deleted vertex's neighbour
 -- ring that occur in the kept vertex's ring isn't exactly two". A third face is there exactly if the deleted vertex occurs twice in the kept
 -- one's ring (proofs/Paper.antt)
 unfoldable pub unsafe : Table → ℕ → Bool
 unsafe t c =
-    ltb 1 (timesIn (ringOf t (vertex t (next c))) (vertex t (previous c)))
-    || not (eqb (commonIn (ringOf t (vertex t (next c))) (ringOf t (vertex t (previous c)))) 2)
+    ltb 1 (timesIn (neighbourRing t (vertex t (next c))) (vertex t (previous c)))
+    || not (eqb (commonIn (neighbourRing t (vertex t (next c))) (neighbourRing t (vertex t (previous c)))) 2)

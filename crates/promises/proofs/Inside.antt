@@ -1,7 +1,7 @@
 -- No walk inside a run is tangled, and no index is out of range: each table of a run is well-formed. Assumes nothing.
 use Prim.Native.Nat.{ℕ, _+_, _/_, _≤_}
-use mathlib.Core.Path.{_≡_, refl}
-use mathlib.Core.Bool.{Bool, true, false, cond}
+use mathlib.Core.Path.{_≡_, refl, sym, ap, _∙_}
+use mathlib.Core.Bool.{Bool, true, false, cond, false≢true}
 use mathlib.Core.List.{List}
 use native.Mathlib.Omega.{arith}
 use native.Mathlib.Decide.{ℕ-discrete}
@@ -18,11 +18,13 @@ use Rattle.fan.proofs.Walk.{it, Stop, border, closes, Walk}
 use Rattle.fan.proofs.Ring.{stuckL, stuckR}
 use Rattle.fan.proofs.Visits.{after, w, v, leftward, rightward}
 use Rattle.fan.proofs.Tables.{table-linked}
-use Rattle.ring.specs.Ring.{side, ring as ringOf}
+use Rattle.ring.specs.Ring.{Side, side, ring as ringOf}
 use Rattle.ring.proofs.Exact.{bordered, side-is}
+use Rattle.traversal.specs.declared.Kind.the-variants.{Vertices}
 use Rattle.traversal.specs.Walk.{walk, visits}
+use Rattle.traversal.specs.Lists.{entry, entries}
 use Rattle.traversal.proofs.Sound.{never-15, corner-calm, corner-healthy, Healthy, ring, fan}
-use Rattle.edge_collapse.specs.EdgeCollapse.{affectsBoundary}
+use Rattle.edge_collapse.specs.EdgeCollapse.{meetsBorder, neighbours, affectsBoundary}
 use Rattle.edge_collapse.proofs.Paper.{inner}
 use Rattle.edit.specs.Plans.{around, triangle}
 use Rattle.keeps.specs.Keeps.{Kept}
@@ -72,12 +74,28 @@ module _ (t : Table) (Z : Shaped t) (W : WellFormed t) where
     ring-walk =
         by-end (lefts .ends) (side-is (Live t) co (t .corners) true c lefts) (side-is (Live t) co (t .corners) false c rights) (corner-healthy t Z W c h)
 
+    -- and a ring without a border has the neighbours that `ring_vertices` lists
+    neighbours-by : (x : Stop (stuckL (oppositeAt co)) (swingL (oppositeAt co)) c (it (swingL (oppositeAt co)) c (lefts .last)))
+        → side true co c (t .corners) c
+        ≡ record { visits = after (it (swingL (oppositeAt co)) c) 0 (lefts .last); border = bordered (Live t) co (t .corners) true c lefts x }
+        → Healthy co (t .cornerMark) (t .corners) L c h → meetsBorder co (t .corners) c ≡ false
+        → neighbours (t .cornerVertex) co (t .corners) c ≡ entries Vertices (t .cornerVertex) (walk co (t .cornerMark) (t .corners) c)
+    unfolding meetsBorder neighbours leftward entry
+    neighbours-by (border s) p k m = absurd (false≢true (sym m ∙ ap (λ (x : Side). x .border) p))
+    neighbours-by (closes s z) p (ring a b e) m = rw (p, e)
+    neighbours-by (closes s z) p (fan a b e) m = absurd (s a)
+
+    neighbours-list : meetsBorder co (t .corners) c ≡ false
+        → neighbours (t .cornerVertex) co (t .corners) c ≡ entries Vertices (t .cornerVertex) (walk co (t .cornerMark) (t .corners) c)
+    neighbours-list = neighbours-by (lefts .ends) (side-is (Live t) co (t .corners) true c lefts) (corner-healthy t Z W c h)
+
   untangled : Untangled t
   untangled =
       record {
         lists = never-15 t Z W;
         starts = λ c h. (L .face c h, W .cornerLive (vertex t c) (W .vertexLive c h));
         walks = corner-calm t Z W;
+        neighbours = neighbours-list;
         rings = ring-walk;
       }
 

@@ -16,7 +16,7 @@ use Rattle.fan.proofs.Fan.{Linked, face-previous}
 use Rattle.fan.proofs.Tables.{table-linked}
 use Rattle.ring.specs.Ring.{Side, stop, more, side, ring}
 use Rattle.edit.specs.Plans.{around, triangle}
-use Rattle.edge_collapse.specs.EdgeCollapse.{meetsBorder, neighbours, affectsBoundary, ringOf, unsafe}
+use Rattle.edge_collapse.specs.EdgeCollapse.{meetsBorder, neighbours, affectsBoundary, neighbourRing, unsafe}
 use Rattle.promises.specs.Rooms.{Roomier}
 
 module _ {t u : Table} (S : Roomier t u) where
@@ -117,8 +117,8 @@ module _ {t u : Table} (S : Roomier t u) where
     corner-same : (c : ℕ) → Live t c → corner u (vertex u c) ≡ corner t (vertex t c)
     corner-same c h = sym (same-corner (vertex t c) (W .vertexLive c h .0) ∙ ap (corner u) (same-vertex c (h .0)))
 
-    ringOf-same : (c : ℕ) → Live t c → ringOf t (vertex t c) ≡ ringOf u (vertex u c)
-    ringOf-same c h = rw (corner-same c h, ← (S .corners)) (neighbours-same (corner t (vertex t c)) (vertex-corner c h))
+    neighbourRing-same : (c : ℕ) → Live t c → neighbourRing t (vertex t c) ≡ neighbourRing u (vertex u c)
+    neighbourRing-same c h = rw (corner-same c h, ← (S .corners)) (neighbours-same (corner t (vertex t c)) (vertex-corner c h))
 
     meets-same : (c : ℕ) → Live t c
         → meetsBorder (t .cornerOpposite) (t .corners) (corner t (vertex t c)) ≡ meetsBorder (u .cornerOpposite) (u .corners) (corner u (vertex u c))
@@ -132,7 +132,7 @@ module _ {t u : Table} (S : Roomier t u) where
       pub unsafe-same : unsafe t c ≡ unsafe u c
       unfolding unsafe
       unsafe-same =
-          rw (ringOf-same (next c) (L .face c h), ringOf-same (previous c) (face-previous L c h), same-vertex (previous c) (face-previous L c h .0))
+          rw (neighbourRing-same (next c) (L .face c h), neighbourRing-same (previous c) (face-previous L c h), same-vertex (previous c) (face-previous L c h .0))
 
       -- ---- the plans
 

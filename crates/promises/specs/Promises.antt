@@ -2,6 +2,7 @@
 -- proofs/Promises.antt, proofs/Words.antt and proofs/Inside.antt.
 use Prim.Native.Nat.{ℕ, _+_, _≤_, _<_}
 use mathlib.Core.Path.{_≡_}
+use mathlib.Core.Bool.{false}
 use mathlib.Core.Logic.{_≢_}
 use mathlib.Core.List.{List, List·Memᴰ}
 use lib.Ieee.{Float}
@@ -14,9 +15,12 @@ use Rattle.table.specs.Table.{Table, Shaped, cornerRoom, vertexRoom, vertex, op
 use Rattle.table.specs.Rules.{WellFormed}
 use Rattle.ring.specs.Ring.{ring}
 use Rattle.traversal.specs.declared.Kind.{Kind}
+use Rattle.traversal.specs.declared.Kind.the-variants.{Vertices}
 use Rattle.traversal.specs.Walk.{tangled, walk, visits}
+use Rattle.traversal.specs.Lists.{entries}
 use Rattle.traversal.specs.Ring.{ringOf}
 use Rattle.build.specs.Build.{build}
+use Rattle.edge_collapse.specs.EdgeCollapse.{meetsBorder, neighbours}
 use Rattle.edit.specs.declared.Around.{Around}
 use Rattle.edit.specs.declared.Triangle.{Triangle}
 use Rattle.edit.specs.Plans.{around, triangle}
@@ -77,12 +81,16 @@ AtMost14 = (t : Table) (e : Edit) → answer t e ≤ 14
 -- ---- no walk inside a run is tangled, no index inside a run is out of range
 
 -- No walk is tangled: no ring list of the table answers 15, and from a live corner the walk never tangles. The commands walk by opposites
--- alone, and that ring is what the walk visits. They begin at a live corner, also one that is refused: at a corner of the target's face, or at
--- the corner of such a corner's vertex.
+-- alone, and that ring is what the walk visits; without a border the neighbours that a collapse is tested by are the list of
+-- `ring_vertices`. They begin at a live corner, also one that is refused: at a corner of the target's face, or at the corner of such a
+-- corner's vertex.
 pub record Untangled (t : Table) : Type 0 where
   pub lists : (kind : Kind) (v : ℕ) (list : List ℕ) → ringOf kind v t list .answer ≢ 15
   pub starts : (c : ℕ) → Live t c → Live t (next c) × Live t (corner t (vertex t c))
   pub walks : (c : ℕ) → Live t c → walk (t .cornerOpposite) (t .cornerMark) (t .corners) c ≢ tangled
+  pub neighbours : (c : ℕ) → Live t c → meetsBorder (t .cornerOpposite) (t .corners) c ≡ false
+      → neighbours (t .cornerVertex) (t .cornerOpposite) (t .corners) c
+      ≡ entries Vertices (t .cornerVertex) (walk (t .cornerOpposite) (t .cornerMark) (t .corners) c)
   pub rings : (c : ℕ) → Live t c → ring (t .cornerOpposite) (t .corners) c ≡ visits (walk (t .cornerOpposite) (t .cornerMark) (t .corners) c)
 
 -- what an edit reads of the two faces at an edge, or of one face, before it writes
