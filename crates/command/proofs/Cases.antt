@@ -1,8 +1,7 @@
 -- What is decoded at each kind, and the checks by what was found. Assumes nothing.
-use mathlib.Core.Path.{_≡_, refl, sym, ap, _∙_}
+use mathlib.Core.Path.{_≡_, sym, ap, _∙_}
 use mathlib.Core.Bool.{Bool, true, false, cond, not}
-use mathlib.Core.List.{List}
-use Prim.Native.Nat.{ℕ, _+_, _/_, _<_, _≤_}
+use Prim.Native.Nat.{ℕ, _+_, _/_}
 use native.Mathlib.Omega.{arith}
 use borrow.Author.Tests.{ne-eqb}
 use lib.Dec.{eqb, ltb}
@@ -11,11 +10,10 @@ use Rattle.vertex.specs.Point.{finitePoint}
 use Rattle.edge_collapse.specs.EdgeCollapse.{affectsBoundary, unsafe}
 use Rattle.vertex.specs.declared.Point.{Point}
 use Rattle.table.specs.Table.{Table, vertex, opposite}
-use Rattle.table.specs.Slots.{vertexAt, oppositeAt, markAt}
+use Rattle.table.specs.Slots.{vertexAt, markAt}
 use Rattle.command.specs.Decode.{decoded}
 use Rattle.command.specs.Answers.{first, when, targeted, roomFor, noRoom, sameWings, flipAnswer, collapseAnswer, splitEdgeAnswer, splitFaceAnswer}
 use Rattle.command.proofs.Chain.{first-stop, first-on, stop-when, on-when, stop-at, go-on, first-assoc}
-use Rattle.command.specs.declared.Edit.{Edit}
 use Rattle.command.specs.declared.Edit.the-variants.{Collapse, Flip, SplitEdge, SplitFace, Unknown}
 
 module _ (k t : ℕ) (p : Point) where

@@ -1,8 +1,8 @@
 -- A command that answers 0 has passed its checks, so its effect keeps a well-formed table. Assumes nothing.
-use Prim.Native.Nat.{ℕ, _+_, _*_, _/_, _≤_, _<_}
-use mathlib.Core.Path.{_≡_, refl, sym, ap, _∙_}
+use Prim.Native.Nat.{ℕ, _+_, _/_, _≤_, _<_}
+use mathlib.Core.Path.{_≡_, refl}
 use mathlib.Core.Logic.{_≢_}
-use mathlib.Core.Bool.{Bool, true, false, cond, not, false≢true}
+use mathlib.Core.Bool.{Bool, true, false, cond, not}
 use native.Mathlib.Omega.{arith}
 use native.Mathlib.Decide.{ℕ-discrete}
 use borrow.Author.Tests.{eq-eqb, ne-eqb, eqb-true, eqb-false, ltb-true, ltb-false, not-false}
@@ -13,13 +13,12 @@ use Rattle.vertex.specs.Point.{finitePoint}
 use Rattle.table.specs.Slots.{markAt}
 use Rattle.table.specs.Table.{Table, cornerRoom, vertexRoom, vertex, opposite, Live, Shaped}
 use Rattle.table.specs.Rules.{WellFormed}
-use Rattle.table.specs.Euler.{SameEuler}
 use Rattle.edge_collapse.specs.EdgeCollapse.{affectsBoundary, unsafe}
 use Rattle.keeps.specs.Keeps.{Kept}
 use Rattle.keeps.proofs.Kept.{flip-kept, collapse-kept, face-kept, edge-kept}
 use Rattle.command.specs.declared.Edit.{Edit}
 use Rattle.command.specs.declared.Edit.the-variants.{Collapse, Flip, SplitEdge, SplitFace, Unknown}
-use Rattle.command.specs.Answers.{first, when, targeted, roomFor, cornerTarget, faceTarget, notFinite, noRoom, noOpposite, sameWings, collapseAnswer, flipAnswer, splitEdgeAnswer, splitFaceAnswer, answer}
+use Rattle.command.specs.Answers.{targeted, roomFor, cornerTarget, faceTarget, notFinite, noRoom, noOpposite, sameWings, collapseAnswer, flipAnswer, splitEdgeAnswer, splitFaceAnswer, answer}
 use Rattle.command.specs.Step.{effect, step}
 use Rattle.command.proofs.Chain.{first-left, first-right, when-false}
 

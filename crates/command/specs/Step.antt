@@ -1,5 +1,4 @@
 -- A command: its answer first, its effect after. A refused one changes nothing.
-use Prim.Native.Nat.{ℕ}
 use mathlib.Core.Bool.{cond}
 use lib.Dec.{eqb}
 use Rattle.table.specs.Table.{Table}

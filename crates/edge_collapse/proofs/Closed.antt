@@ -1,10 +1,10 @@
 -- On a well-formed table the walk to the left from a live corner meets a border exactly if some edge at its vertex lacks an opposite, and
 -- else lists the live corners of the vertex once each. Assumes nothing.
-use Prim.Native.Nat.{ℕ, zero, suc, _+_, _≤_, _<_}
+use Prim.Native.Nat.{ℕ, zero, suc, _≤_, _<_}
 use mathlib.Core.Path.{_≡_, refl, sym, ap, subst, _∙_}
 use mathlib.Core.Logic.{_≢_}
-use mathlib.Core.List.{List, [], _∷_, List·Memᴰ}
-use mathlib.Core.Bool.{Bool, true, false, false≢true}
+use mathlib.Core.List.{List, [], _∷_}
+use mathlib.Core.Bool.{true, false, false≢true}
 use native.Mathlib.Omega.{arith}
 use native.Mathlib.Decide.{decLt}
 use Rattle.corner.specs.Corner.{absent, next, previous}
@@ -14,7 +14,7 @@ use Rattle.fan.proofs.Fan.{swingL, Linked, OneFan, left-vertex, left-back}
 use Rattle.fan.proofs.Walk.{it, Stop, border, closes, Walk}
 use Rattle.fan.proofs.Ring.{stuckL, On, closed-cover}
 use Rattle.fan.proofs.Visits as visits
-use Rattle.fan.proofs.Visits.{after, Covers, Sound, leftward, ring-covers, covers-sound}
+use Rattle.fan.proofs.Visits.{after, Sound, leftward, ring-covers, covers-sound}
 use Rattle.fan.proofs.Tables.{table-linked, table-fan}
 use Rattle.ring.specs.Ring.{Side, side}
 use Rattle.ring.proofs.Exact.{bordered, side-is}

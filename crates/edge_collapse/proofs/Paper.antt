@@ -1,11 +1,10 @@
 -- The two tests on a well-formed table say what document 01 says. Assumes nothing.
-use Prim.Native.Nat.{ℕ, _≤_, _<_}
-use mathlib.Core.Path.{_≡_, refl, sym, ap, subst, _∙_}
+use Prim.Native.Nat.{ℕ, _<_}
+use mathlib.Core.Path.{_≡_, refl, sym, ap, _∙_}
 use mathlib.Core.Logic.{_≢_, _⊎_, inl, inr}
-use mathlib.Core.List.{List, _∷_}
-use mathlib.Core.Bool.{Bool, true, false, cond, _||_, not, false≢true}
-use native.Mathlib.Omega.{arith}
-use borrow.Author.Tests.{lt-ltb, le-ltb, ltb-true, ltb-false, eqb-true, not-false}
+use mathlib.Core.List.{_∷_}
+use mathlib.Core.Bool.{Bool, true, false, _||_, not, false≢true}
+use borrow.Author.Tests.{lt-ltb, eqb-true, not-false}
 use lib.Dec.{eqb, ltb}
 use Rattle.corner.specs.Corner.{absent, next, previous}
 use Rattle.corner.proofs.Turns.{previous-next}

@@ -1,10 +1,9 @@
 -- The two tests of an edge, by what was read and found at its two end vertices. Assumes nothing.
-use mathlib.Core.Path.{_≡_, refl, ap, sym, _∙_}
-use mathlib.Core.Bool.{Bool, true, false, cond, _||_, not}
-use mathlib.Core.List.{List}
+use mathlib.Core.Path.{_≡_}
+use mathlib.Core.Bool.{Bool, true, false, not}
 use Prim.Native.Nat.{ℕ, _≤_, _<_}
 use borrow.Author.Tests.{lt-ltb, le-ltb}
-use lib.Dec.{eqb, ltb}
+use lib.Dec.{eqb}
 use Rattle.corner.specs.Corner.{next, previous}
 use Rattle.table.specs.Slots.{cornerAt}
 use Rattle.table.specs.Table.{Table, vertex}

@@ -4,7 +4,7 @@ use mathlib.Core.Bool.{Bool, true, cond, _||_, not}
 use mathlib.Core.List.{List, [], _∷_, map}
 use lib.Dec.{eqb, ltb}
 use Rattle.corner.specs.Corner.{next, previous}
-use Rattle.table.specs.Slots.{vertexAt, cornerAt}
+use Rattle.table.specs.Slots.{vertexAt}
 use Rattle.table.specs.Table.{Table, vertex, corner}
 use Rattle.ring.specs.Ring.{side}
 

@@ -1,7 +1,7 @@
 -- Document 01, "Small meshes to compare": the marked edits, slot by slot. Assumes nothing.
 use mathlib.Core.Path.{_≡_, refl}
-use mathlib.Core.List.{List, [], _∷_}
-use lib.Ieee.{Float, nan}
+use mathlib.Core.List.{[], _∷_}
+use lib.Ieee.{Float}
 use Rattle.corner.specs.Corner.{absent, next, previous}
 use Rattle.vertex.specs.declared.Point.{Point}
 use Rattle.table.specs.Slots.{nought}

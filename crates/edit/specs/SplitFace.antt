@@ -10,7 +10,6 @@
 use Prim.Native.Nat.{ℕ, _+_}
 use mathlib.Core.List.{List}
 use lib.ListN.{set}
-use lib.Ieee.{Float}
 use Rattle.corner.specs.Corner.{absent, firstCorner}
 use Rattle.vertex.specs.declared.Point.{Point}
 use Rattle.table.specs.Slots.{paired, three, withPoint}

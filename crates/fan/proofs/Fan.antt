@@ -1,11 +1,10 @@
 -- Fans: the swings about a vertex as a relation, its equivalence closure, and the rules R2 to R4 as a record. Assumes nothing.
-use mathlib.Core.Path.{_≡_, refl, ap, sym, _∙_, subst}
+use mathlib.Core.Path.{_≡_, refl, sym, subst}
 use mathlib.Core.Logic.{_≢_}
-use Prim.Native.Nat.{ℕ, zero, suc, _+_, _≤_, _<_}
-use native.Mathlib.Omega.{arith}
+use Prim.Native.Nat.{ℕ}
 use Rattle.corner.specs.Corner.{absent, next, previous}
 use Rattle.table.specs.Rules.{Fan, here, left, right, Mate}
-use Rattle.corner.proofs.Turns.{next-next, next-previous, previous-next, previous-previous, next-three}
+use Rattle.corner.proofs.Turns.{next-next, next-previous, previous-next}
 
 -- swing left: next, opposite, next; swing right: previous, opposite, previous
 abbrev pub swingL : (ℕ → ℕ) → ℕ → ℕ

@@ -1,13 +1,12 @@
 -- The ring walk of a live corner of a well-formed table. Assumes nothing.
-use mathlib.Core.Path.{_≡_, refl, ap, sym, _∙_, subst}
+use mathlib.Core.Path.{_≡_, refl, ap, sym, _∙_}
 use mathlib.Core.Logic.{_≢_, _⊎_, inl, inr}
-use Prim.Native.Nat.{ℕ, zero, suc, _+_, _-_, _≤_, _<_}
+use Prim.Native.Nat.{ℕ, zero, suc, _-_, _≤_, _<_}
 use native.Mathlib.Omega.{arith}
 use native.Mathlib.Decide.{ℕ-discrete, decLt}
 use Rattle.corner.specs.Corner.{absent, next, previous}
-use Rattle.corner.proofs.Turns.{next-next, next-previous, previous-next, next-injective, previous-injective}
 use Rattle.fan.proofs.Fan.{swingL, swingR, Left, Conn, stay, fore, back, Linked, left-live, right-live, left-back, right-back}
-use Rattle.fan.proofs.Walk.{Moves, it, Stop, border, closes, Walk, walk}
+use Rattle.fan.proofs.Walk.{Moves, it, Stop, border, closes, Walk}
 
 abbrev pub stuckL : (ℕ → ℕ) → ℕ → Type 0
 stuckL opp d = opp (next d) ≡ absent

@@ -1,11 +1,11 @@
 -- The build's duplicates: giving a whole fan a new vertex keeps R2 to R4, and settles that fan. Assumes nothing.
-use mathlib.Core.Path.{_≡_, refl, ap, sym, _∙_, subst}
+use mathlib.Core.Path.{_≡_, sym, _∙_}
 use mathlib.Core.Logic.{_≢_}
 use Prim.Native.Nat.{ℕ}
 use Rattle.corner.specs.Corner.{absent, next, previous}
 use Rattle.corner.proofs.Turns.{next-previous, previous-next}
 use Rattle.table.specs.Rules.{Mate}
-use Rattle.fan.proofs.Fan.{Left, Conn, stay, fore, back, conn-trans, conn-sym, Linked, linked, face-previous, left-step, right-step, conn-vertex, conn-live}
+use Rattle.fan.proofs.Fan.{Left, Conn, stay, fore, conn-trans, conn-sym, Linked, linked, face-previous, right-step, conn-vertex}
 
 -- every live corner of v lies in the fan of c
 unfoldable pub Settled : (live : ℕ → Type 0) (opp vtx : ℕ → ℕ) (v c : ℕ) → Type 0

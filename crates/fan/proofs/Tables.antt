@@ -1,12 +1,12 @@
 -- What the rules of a table say of its swings, and back. Assumes nothing.
-use mathlib.Core.Path.{_≡_, refl, ap, sym, _∙_, subst}
+use mathlib.Core.Path.{_≡_, sym, _∙_, subst}
 use mathlib.Core.Logic.{_≢_}
-use Prim.Native.Nat.{ℕ, _≤_, _<_, _%_}
+use Prim.Native.Nat.{ℕ, _<_}
 use native.Mathlib.Omega.{arith}
 use Rattle.corner.specs.Corner.{absent, next}
 use Rattle.corner.proofs.Turns.{next-below}
 use Rattle.table.specs.Table.{Table, cornerRoom, vertex, opposite, corner, Live, LiveVertex, Shaped}
-use Rattle.table.specs.Rules.{Fan, Mate, WellFormed}
+use Rattle.table.specs.Rules.{Fan, WellFormed}
 use Rattle.fan.proofs.Fan.{Left, Conn, conn-trans, conn-sym, Linked, OneFan, fan-conn, conn-fan, linked}
 
 pub below-absent : (t : Table) → Shaped t → (c : ℕ) → c < cornerRoom t → c ≢ absent

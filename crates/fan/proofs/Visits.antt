@@ -2,7 +2,7 @@
 -- to the right reach. They are exactly its fan, none twice. Assumes nothing.
 use mathlib.Core.Path.{_≡_, refl, ap, sym, _∙_, subst}
 use mathlib.Core.Logic.{_≢_, _⊎_, inl, inr}
-use mathlib.Core.List.{List, [], _∷_, _++_, List·Memᴰ, List·Memᴰ·head, List·Memᴰ·tail, List·Memᴰ·cases-cons, List·Memᴰ·append-cases, Memᴰ·append-left, Memᴰ·append-right}
+use mathlib.Core.List.{List, [], _∷_, _++_, List·Memᴰ, List·Memᴰ·head, List·Memᴰ·tail, List·Memᴰ·append-cases, Memᴰ·append-left, Memᴰ·append-right}
 use Prim.Native.Nat.{ℕ, zero, suc, _+_, _-_, _≤_, _<_}
 use native.Mathlib.Omega.{arith}
 use native.Mathlib.Decide.{ℕ-discrete, decLt, decLe}
@@ -10,7 +10,7 @@ use lib.ListN.{length, length-append}
 use Rattle.fan.specs.Visits.{Distinct}
 use Rattle.fan.proofs.Fan.{swingL, swingR, Left, Conn, stay, fore, back, Linked, OneFan, conn-live, conn-vertex, left-step, right-step}
 use Rattle.fan.proofs.Pigeon.{Clash, pigeon}
-use Rattle.fan.proofs.Walk.{Moves, it, Stop, border, closes, Walk, walk}
+use Rattle.fan.proofs.Walk.{it, Walk, walk}
 use Rattle.fan.proofs.Ring.{stuckL, stuckR, On, lefts, rights, closed-cover, open-cover, open-apart}
 
 -- g (i + 1), .., g (i + k)

@@ -1,15 +1,15 @@
 -- Collapsing an inner edge whose ends are inner: R2 to R4 and the one fan to a vertex are kept. Assumes nothing.
-use mathlib.Core.Path.{_≡_, refl, ap, sym, _∙_, subst}
-use mathlib.Core.Logic.{_≢_, _⊎_, inl, inr}
-use Prim.Native.Nat.{ℕ, zero, suc, _+_, _-_, _≤_, _<_}
+use mathlib.Core.Path.{_≡_, refl, sym, _∙_, subst}
+use mathlib.Core.Logic.{_≢_}
+use Prim.Native.Nat.{ℕ, zero, suc, _-_, _≤_, _<_}
 use native.Mathlib.Omega.{arith}
-use native.Mathlib.Decide.{ℕ-discrete, decLt}
+use native.Mathlib.Decide.{ℕ-discrete}
 use Rattle.corner.specs.Corner.{next, previous}
-use Rattle.corner.proofs.Turns.{next-differs, previous-differs, next-next, next-previous, previous-next, next-injective, previous-injective}
+use Rattle.corner.proofs.Turns.{next-next, next-previous, previous-next, next-injective}
 use Rattle.corner.specs.Corner.{absent}
 use Rattle.table.specs.Rules.{Mate}
-use Rattle.fan.proofs.Fan.{swingL, Left, Conn, stay, fore, back, conn-trans, conn-sym, conn-eq, simulate, Linked, OneFan, mate-sym, mate-at, linked, left-live, left-vertex, face-previous, opp-not-self, opp-not-next, opp-not-previous, opp-of}
-use Rattle.fan.proofs.Walk.{Moves, it, Stop, border, closes, Walk, walk}
+use Rattle.fan.proofs.Fan.{swingL, Left, Conn, stay, fore, conn-trans, conn-sym, conn-eq, simulate, Linked, OneFan, mate-sym, mate-at, linked, left-vertex, face-previous, opp-not-self, opp-not-next, opp-not-previous, opp-of}
+use Rattle.fan.proofs.Walk.{it, Stop, border, closes, Walk, walk}
 use Rattle.fan.proofs.Ring.{stuckL, lefts}
 use Rattle.keeps.proofs.SplitFace.{Face3}
 use Rattle.fan.proofs.Redirect.{at, at-same, at-other}

@@ -1,23 +1,22 @@
 -- The collapse on the lists. Assumes nothing.
 use borrow.Author.Tests.{ne-eqb}
 use mathlib.Core.Bool.{true}
-use mathlib.Core.Path.{_≡_, refl, ap, sym, _∙_, subst}
+use mathlib.Core.Path.{_≡_, refl, ap, sym, _∙_}
 use mathlib.Core.Logic.{_≢_, Ne·symm, _⊎_, inl, inr}
-use mathlib.Core.List.{List, [], _∷_, List·Memᴰ}
-use Prim.Native.Nat.{ℕ, zero, suc, _+_, _-_, _≤_, _<_, _%_}
+use mathlib.Core.List.{List, []}
+use Prim.Native.Nat.{ℕ, _-_, _≤_, _<_}
 use native.Mathlib.Omega.{arith}
-use native.Mathlib.Decide.{ℕ-discrete, decLt}
+use native.Mathlib.Decide.{ℕ-discrete}
 use lib.ListN.{length, getD, set, length-set}
 use Rattle.corner.specs.Corner.{next, previous}
-use Rattle.corner.proofs.Turns.{next-next, next-previous, previous-next, next-below}
+use Rattle.corner.proofs.Turns.{next-below}
 use Rattle.corner.specs.Corner.{absent}
-use Rattle.table.specs.Rules.{Mate}
-use Rattle.fan.proofs.Fan.{Linked, OneFan, linked, opp-of, face-previous}
-use Rattle.keeps.proofs.SplitFace.{Face3, face3}
-use Rattle.keeps.proofs.Collapse.{MergeSite, Merge, Six, is24, is25, is26, is9, is10, is11, six?, six-next, off-next, off-previous, collapse-linked, collapse-fan, l25, l26, l9, l10, l11, l21, l28, l6, l13, s21, s28, s6, s13, b21, b28, b6, b13, t25, t26, t10, t11, e8, e9, d78, d89, d97, d39, d38, x24-25, x25-26, x26-24, x9-10, x10-11, x11-9, x26-10, x26-11, x25-10, x25-11}
+use Rattle.fan.proofs.Fan.{Linked, face-previous}
+use Rattle.keeps.proofs.SplitFace.{face3}
+use Rattle.keeps.proofs.Collapse.{MergeSite, Merge, Six, is24, is25, is26, is9, is10, is11, six?, six-next, off-next, off-previous, collapse-linked, collapse-fan, l25, l26, l10, l11, l21, l28, l6, l13, s28, s6, s13, b21, b28, b6, b13, t26, t10, t11, e8, e9, d89, x25-26, x10-11, x26-10, x26-11, x25-10, x25-11}
 use Rattle.fan.proofs.Redirect.{at, at-same, at-other, at-ind, Seen, set-seen}
 use Rattle.table.specs.Slots.{relabel}
-use Rattle.fan.proofs.Relabel.{relabel-in, relabel-out, length-relabel}
+use Rattle.fan.proofs.Relabel.{relabel-in, relabel-out}
 use Rattle.fan.proofs.Visits.{Sound}
 use Rattle.ring.specs.Ring.{ring}
 use Rattle.ring.proofs.Exact.{ring-sound}
@@ -28,8 +27,8 @@ use Rattle.vertex.specs.Point.{finitePoint}
 use Rattle.table.specs.Table.{Table, table, Live, LiveVertex, opposite, vertex, corner, Shaped}
 use Rattle.table.specs.Rules.{WellFormed}
 use Rattle.table.specs.Slots.{paired, markAt, pointAt, withPoint}
-use Rattle.fan.proofs.Tables.{below-absent, table-linked, table-fan, fan-table, inside}
-use Rattle.keeps.proofs.Writes.{paired-seen, length-paired, mark-set, placed-here, placed-other}
+use Rattle.fan.proofs.Tables.{table-linked, table-fan, fan-table, inside}
+use Rattle.keeps.proofs.Writes.{paired-seen, mark-set, placed-here, placed-other}
 
 module _ (t : Table) (Z : Shaped t) (W : WellFormed t) (c24 c25 c26 c9 c10 c11 c21 c28 c6 c13 : ℕ)
     (A : MergeSite (Live t) (opposite t) (vertex t) c24 c25 c26 c9 c10 c11 c21 c28 c6 c13)

@@ -1,9 +1,9 @@
 -- Vertices, edges and faces by decided statements, which is what the edits' counts are shown on, and that they are the counts of
 -- table/specs/Euler.antt. Assumes nothing.
-use mathlib.Core.Path.{_≡_, refl, ap, sym, _∙_, subst}
+use mathlib.Core.Path.{_≡_, refl, sym}
 use mathlib.Core.Logic.{_≢_}
 use mathlib.Core.Bool.{Bool, true, false, cond, not, _&&_, false≢true}
-use Prim.Native.Nat.{ℕ, zero, suc, _+_, _*_, _≤_, _<_, _/_}
+use Prim.Native.Nat.{ℕ, zero, suc, _+_, _*_, _<_, _/_}
 use native.Mathlib.Omega.{arith}
 use native.Mathlib.Decide.{ℕ-discrete}
 use borrow.Author.Tests.{eq-eqb, ne-eqb, eqb-true, eqb-false, not-true}
@@ -14,8 +14,8 @@ use Rattle.table.specs.Table.{Table, opposite, Live, LiveVertex, live}
 use Rattle.table.specs.Euler.{count, vertexCount, faceCount, bareCount, pairedCount, edgeCount, SameEuler}
 use Rattle.table.proofs.Lives.{live-true, true-live}
 use Rattle.table.proofs.Lives as lives
-use Rattle.fan.proofs.Redirect.{at, at-same, at-other, at-ind}
-use Rattle.keeps.proofs.Count.{sum, sum-ext, sum-at, ind, ind-yes, ind-no, ind-iff}
+use Rattle.fan.proofs.Redirect.{at, at-other}
+use Rattle.keeps.proofs.Count.{sum, sum-at, ind, ind-yes, ind-no}
 
 abbrev pub live? : (t : Table) (c : ℕ) → Dec (Live t c)
 live? t c = lives.live? (t .cornerMark) (t .corners) c

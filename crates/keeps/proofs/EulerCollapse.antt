@@ -1,30 +1,25 @@
 -- A collapse keeps vertices minus edges plus faces. Assumes nothing.
-use mathlib.Core.Path.{_≡_, refl, ap, sym, _∙_, subst}
+use mathlib.Core.Path.{_≡_, refl, ap, sym, _∙_}
 use mathlib.Core.Logic.{_≢_, Ne·symm, _⊎_, inl, inr}
-use Prim.Native.Nat.{ℕ, zero, suc, _+_, _-_, _*_, _≤_, _<_, _%_, _/_}
+use Prim.Native.Nat.{ℕ, _+_, _-_, _*_, _<_, _%_, _/_}
 use native.Mathlib.Omega.{arith}
-use native.Mathlib.Decide.{ℕ-discrete}
-use Rattle.corner.specs.Corner.{next, previous}
+use Rattle.corner.specs.Corner.{next}
 use Rattle.corner.proofs.Turns.{next-face, InFace, itself, after, before, in-face}
 use Rattle.corner.specs.Corner.{absent}
 use Rattle.fan.proofs.Fan.{Linked}
-use Rattle.fan.proofs.Redirect.{at, at-same, at-other, at-ind}
-use Rattle.keeps.proofs.Count.{sum, sum-one, sum-ext, sum-at, ind, ind-yes, ind-no, ind-iff}
-use Rattle.keeps.proofs.Collapse.{MergeSite, Merge, Six, is24, is25, is26, is9, is10, is11, six?, Four, at28, at21, at6, at13, else, four, t24, t25, t26, t10, t11, l25, l26, l9, l10, l11, b9, b21, b28, b6, b13, l21, l28, l6, l13, x24-25, x25-26, x26-24, x9-10, x10-11, x11-9, x24-9, x24-10, x24-11, x25-9, x25-10, x25-11, x26-9, x26-10, x26-11}
+use Rattle.fan.proofs.Redirect.{at, at-other, at-ind}
+use Rattle.keeps.proofs.Count.{sum, sum-ext, sum-at, ind, ind-yes, ind-no, ind-iff}
+use Rattle.keeps.proofs.Collapse.{MergeSite, Merge, Six, is24, is25, is26, is9, is10, is11, Four, at28, at21, at6, at13, else, four, t24, t25, t26, t10, t11, l25, l26, l9, l10, l11, b9, b21, b28, b6, b13, l21, l28, l6, l13, x24-25, x25-26, x26-24, x9-10, x10-11, x11-9, x24-9, x24-10, x24-11, x25-9, x25-10, x25-11, x26-9, x26-10, x26-11}
 use Rattle.keeps.proofs.Euler.{same-euler, live?, drop6, bare, paired, bare?, paired?, liveV?, edges, faces, vertices}
 use Rattle.table.specs.Table.{Table, Live, LiveVertex, opposite, vertex, Shaped}
 use Rattle.table.specs.Rules.{WellFormed}
 use mathlib.Core.Bool.{true}
-use mathlib.Core.List.{List}
-use lib.Ieee.{Float}
 use Rattle.vertex.specs.declared.Point.{Point}
 use Rattle.vertex.specs.Point.{finitePoint}
-use Rattle.table.specs.Slots.{pointAt, withPoint}
 use Rattle.table.specs.Euler.{SameEuler}
 use Rattle.edit.specs.Plans.{around}
-use Rattle.edit.specs.Collapse.{winged, either, collapseVertices, collapseOpposites, collapseMarks, collapseCorners, collapseEdge}
+use Rattle.edit.specs.Collapse.{collapseVertices, collapseOpposites, collapseMarks, collapseCorners, collapseEdge}
 use Rattle.fan.proofs.Tables.{table-linked}
-use Rattle.keeps.proofs.SplitFace.{face3}
 use Rattle.keeps.proofs.CollapseTable.{u, keep, kept, gone, the-merge, stays, stayed, Safe, about, winged-left, either-left, site, co′, cv′, cm′, vc′, vm′}
 
 module _ {live live′ : ℕ → Type 0} {opposite opposite′ vertex vertex′ : ℕ → ℕ} {c24 c25 c26 c9 c10 c11 c21 c28 c6 c13 : ℕ}

@@ -1,15 +1,14 @@
 -- A flip keeps vertices, edges and faces. Assumes nothing.
-use mathlib.Core.Path.{_≡_, refl, ap, sym, _∙_, subst}
+use mathlib.Core.Path.{_≡_, refl, ap, sym, _∙_}
 use mathlib.Core.Logic.{_≢_, Ne·symm}
-use Prim.Native.Nat.{ℕ, zero, suc, _+_, _*_, _≤_, _<_, _%_, _/_}
+use Prim.Native.Nat.{ℕ, _*_, _<_, _/_}
 use native.Mathlib.Omega.{arith}
-use native.Mathlib.Decide.{ℕ-discrete}
-use Rattle.corner.specs.Corner.{next, previous}
+use Rattle.corner.specs.Corner.{next}
 use Rattle.corner.specs.Corner.{absent}
 use Rattle.fan.proofs.Fan.{Linked}
 use Rattle.keeps.proofs.SplitFace.{face3}
 use Rattle.keeps.proofs.Collapse.{Six, is24, is25, is26, is9, is10, is11, six?}
-use Rattle.keeps.proofs.Count.{sum, sum-ext, sum-round, ind, ind-yes, ind-no, ind-iff}
+use Rattle.keeps.proofs.Count.{sum, sum-ext, sum-round, ind, ind-iff}
 use Rattle.keeps.proofs.Flip.{FlipSite, Flip, Out, by5, by0, by2, by3, far, out, l2, l0, l4, l5, l3, b4, x2-0, x2-3, x2-5, x0-5, x0-3, x5-3}
 use Rattle.keeps.proofs.Euler.{same-euler, live?, bare, paired, bare?, paired?, liveV?, edges, faces, vertices}
 use Rattle.table.specs.Table.{Table, Live, opposite, vertex, Shaped}

@@ -1,7 +1,7 @@
 -- Splitting a border edge keeps vertices minus edges plus faces. Assumes nothing.
 use mathlib.Core.Path.{_≡_, refl, ap, sym, _∙_, subst}
 use mathlib.Core.Logic.{_≢_, _⊎_, inl, inr}
-use Prim.Native.Nat.{ℕ, zero, suc, _+_, _*_, _≤_, _<_, _%_, _/_}
+use Prim.Native.Nat.{ℕ, suc, _+_, _*_, _≤_, _<_, _%_, _/_}
 use native.Mathlib.Omega.{arith}
 use native.Mathlib.Decide.{ℕ-discrete}
 use native.Mathlib.Numerals.{towards-suc}
@@ -15,14 +15,14 @@ use Rattle.fan.proofs.Redirect.{at, at-ind}
 use Rattle.keeps.proofs.SplitBorder.{Rim, rim-linked}
 use Rattle.keeps.proofs.Count.{sum, sum-one, sum-ext, sum-at, ind, ind-yes, ind-no, ind-iff}
 use Rattle.keeps.proofs.Euler.{same-euler, live?, bare, paired, bare?, paired?, liveV?, edges, faces, vertices}
-use Rattle.table.specs.Table.{Table, Live, LiveVertex, opposite, vertex, Shaped}
+use Rattle.table.specs.Table.{Table, Live, opposite, vertex, Shaped}
 use Rattle.table.specs.Rules.{WellFormed}
 use mathlib.Core.Bool.{true}
 use mathlib.Core.List.{List}
 use lib.Ieee.{Float}
 use Rattle.vertex.specs.declared.Point.{Point}
 use Rattle.vertex.specs.Point.{finitePoint}
-use Rattle.table.specs.Slots.{pointAt, withPoint}
+use Rattle.table.specs.Slots.{pointAt}
 use Rattle.table.specs.Euler.{SameEuler}
 use Rattle.edit.specs.Plans.{triangle}
 use Rattle.edit.specs.SplitEdge.{splitPoints, splitCorners, boundaryVertices, boundaryOpposites, splitBoundaryEdge}

@@ -1,19 +1,19 @@
 -- Splitting a face keeps vertices minus edges plus faces. Assumes nothing.
-use mathlib.Core.Path.{_≡_, refl, ap, sym, _∙_, subst}
+use mathlib.Core.Path.{_≡_, refl, sym, _∙_, subst}
 use mathlib.Core.Logic.{_≢_, _⊎_, inl, inr}
-use Prim.Native.Nat.{ℕ, zero, suc, _+_, _*_, _≤_, _<_, _%_, _/_}
+use Prim.Native.Nat.{ℕ, suc, _+_, _*_, _≤_, _<_, _%_, _/_}
 use native.Mathlib.Omega.{arith}
 use native.Mathlib.Decide.{ℕ-discrete}
 use lib.ListN.{length}
-use Rattle.corner.specs.Corner.{next, previous}
+use Rattle.corner.specs.Corner.{next}
 use Rattle.corner.proofs.Turns.{next-differs}
 use Rattle.corner.specs.Corner.{absent, firstCorner}
-use Rattle.fan.proofs.Fan.{Linked, opp-of}
+use Rattle.fan.proofs.Fan.{Linked}
 use Rattle.keeps.proofs.SplitFace.{Face3, face3, Cut, cut-linked}
 use Rattle.keeps.proofs.Count.{sum, sum-one, sum-ext, ind, ind-yes, ind-no, ind-iff}
 use Rattle.keeps.proofs.Euler.{same-euler, live?, bare, paired, bare?, paired?, liveV?, edges, faces, vertices}
 use Rattle.keeps.proofs.EulerSplitInner.{grow6}
-use Rattle.table.specs.Table.{Table, Live, LiveVertex, opposite, vertex, Shaped}
+use Rattle.table.specs.Table.{Table, Live, opposite, vertex, Shaped}
 use Rattle.table.specs.Rules.{WellFormed}
 use mathlib.Core.Bool.{true}
 use mathlib.Core.List.{List}

@@ -1,26 +1,26 @@
 -- Splitting an inner edge keeps vertices minus edges plus faces. Assumes nothing.
-use mathlib.Core.Path.{_≡_, refl, ap, sym, _∙_, subst}
-use mathlib.Core.Logic.{_≢_, Ne·symm, _⊎_, inl, inr}
-use Prim.Native.Nat.{ℕ, zero, suc, _+_, _-_, _*_, _≤_, _<_, _%_, _/_}
+use mathlib.Core.Path.{_≡_, refl, sym, _∙_, subst}
+use mathlib.Core.Logic.{_≢_, _⊎_, inl, inr}
+use Prim.Native.Nat.{ℕ, suc, _+_, _-_, _*_, _≤_, _<_, _%_, _/_}
 use native.Mathlib.Omega.{arith}
 use native.Mathlib.Decide.{ℕ-discrete}
 use lib.ListN.{length}
-use Rattle.corner.specs.Corner.{next, previous}
+use Rattle.corner.specs.Corner.{next}
 use Rattle.corner.specs.Corner.{absent}
 use Rattle.fan.proofs.Fan.{Linked, opp-of}
 use Rattle.keeps.proofs.SplitFace.{face3}
-use Rattle.fan.proofs.Redirect.{at, at-same, at-other, at-ind}
-use Rattle.keeps.proofs.Count.{sum, sum-one, sum-ext, sum-at, sum-six, sum-two, ind, ind-yes, ind-no, ind-iff}
+use Rattle.fan.proofs.Redirect.{at}
+use Rattle.keeps.proofs.Count.{sum, sum-one, sum-ext, sum-six, sum-two, ind, ind-yes, ind-no, ind-iff}
 use Rattle.keeps.proofs.SplitInner.{SplitSite, Split, split-linked, l0, l5, l2, x0-5}
 use Rattle.keeps.proofs.Euler.{same-euler, live?, bare, paired, bare?, paired?, liveV?, edges, faces, vertices}
-use Rattle.table.specs.Table.{Table, Live, LiveVertex, opposite, vertex, Shaped}
+use Rattle.table.specs.Table.{Table, Live, opposite, vertex, Shaped}
 use Rattle.table.specs.Rules.{WellFormed}
 use mathlib.Core.Bool.{true}
 use mathlib.Core.List.{List}
 use lib.Ieee.{Float}
 use Rattle.vertex.specs.declared.Point.{Point}
 use Rattle.vertex.specs.Point.{finitePoint}
-use Rattle.table.specs.Slots.{pointAt, withPoint}
+use Rattle.table.specs.Slots.{pointAt}
 use Rattle.table.specs.Euler.{SameEuler}
 use Rattle.edit.specs.Plans.{around}
 use Rattle.edit.specs.SplitEdge.{splitPoints, splitCorners, innerVertices, innerOpposites, splitInnerEdge}

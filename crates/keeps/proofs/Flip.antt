@@ -1,10 +1,9 @@
 -- Flipping an inner edge: R2 to R4 and the one fan to a vertex are kept. Assumes nothing.
-use mathlib.Core.Path.{_≡_, refl, ap, sym, _∙_, subst}
+use mathlib.Core.Path.{_≡_, refl, sym, _∙_, subst}
 use mathlib.Core.Logic.{_≢_, Ne·symm}
 use Prim.Native.Nat.{ℕ}
-use native.Mathlib.Decide.{ℕ-discrete}
 use Rattle.corner.specs.Corner.{next, previous}
-use Rattle.corner.proofs.Turns.{next-next, next-previous, previous-next}
+use Rattle.corner.proofs.Turns.{next-next, next-previous}
 use Rattle.corner.specs.Corner.{absent}
 use Rattle.table.specs.Rules.{Mate}
 use Rattle.fan.proofs.Fan.{Left, Conn, stay, fore, conn-trans, conn-sym, conn-eq, simulate, Linked, OneFan, mate-sym, mate-at, linked, face-previous, opp-not-self, opp-not-next, opp-not-previous, opp-of}

@@ -1,27 +1,24 @@
 -- The flip on the lists. Assumes nothing.
-use mathlib.Core.Path.{_≡_, refl, ap, sym, _∙_, subst}
-use mathlib.Core.Logic.{_≢_, Ne·symm, _⊎_, inl, inr}
-use mathlib.Core.List.{List, [], _∷_}
-use Prim.Native.Nat.{ℕ, zero, suc, _+_, _-_, _≤_, _<_, _%_}
+use mathlib.Core.Path.{_≡_, refl, sym, _∙_, subst}
+use mathlib.Core.Logic.{_≢_, Ne·symm}
+use mathlib.Core.List.{List, []}
+use Prim.Native.Nat.{ℕ, _-_, _<_}
 use native.Mathlib.Omega.{arith}
-use native.Mathlib.Decide.{ℕ-discrete}
-use lib.ListN.{length, getD, set, length-set}
-use Rattle.corner.specs.Corner.{next, previous}
-use Rattle.corner.proofs.Turns.{next-next, next-previous, previous-next}
+use lib.ListN.{length, getD, set}
+use Rattle.corner.specs.Corner.{next}
 use Rattle.corner.specs.Corner.{absent}
-use Rattle.table.specs.Rules.{Mate}
-use Rattle.fan.proofs.Fan.{Linked, OneFan, linked, opp-of}
-use Rattle.keeps.proofs.SplitFace.{Face3, face3}
-use Rattle.keeps.proofs.Collapse.{Six, is24, is25, is26, is9, is10, is11, six?}
+use Rattle.fan.proofs.Fan.{Linked, opp-of}
+use Rattle.keeps.proofs.SplitFace.{face3}
+use Rattle.keeps.proofs.Collapse.{Six, is24, is25, is26, is9, is10, is11}
 use Rattle.fan.proofs.Redirect.{at, at-same, at-other, at-ind, Seen, set-seen}
-use Rattle.keeps.proofs.Flip.{FlipSite, Flip, flip-linked, flip-fan, l2, l0, l4, l5, l3, b4, s0, s2, s3, s5, x1-2, x2-0, x0-1, x4-5, x5-3, x3-4, x1-4, x1-5, x1-3, x2-4, x2-5, x2-3, x0-4, x0-5, x0-3}
+use Rattle.keeps.proofs.Flip.{FlipSite, Flip, flip-linked, flip-fan, l2, l0, l4, l5, l3, s0, s2, s3, s5, x1-2, x2-0, x0-1, x4-5, x5-3, x3-4, x1-4, x1-5, x1-3, x2-4, x2-5, x2-3, x0-4, x0-5, x0-3}
 use Rattle.table.specs.Table.{Table, table, Live, LiveVertex, opposite, vertex, corner, Shaped}
 use Rattle.table.specs.Rules.{WellFormed}
 use Rattle.edit.specs.Plans.{around}
 use Rattle.edit.specs.Flip.{flipVertices, flipOpposites, flipCorners, flipEdge}
 use Rattle.table.specs.Slots.{paired}
-use Rattle.fan.proofs.Tables.{below-absent, table-linked, table-fan, fan-table, inside}
-use Rattle.keeps.proofs.Writes.{paired-seen, length-paired}
+use Rattle.fan.proofs.Tables.{table-linked, table-fan, fan-table, inside}
+use Rattle.keeps.proofs.Writes.{paired-seen}
 
 -- edit.rs, flip_edge: the reads first, then the writes in their order
 abbrev pub flipCo : List ℕ → (c0 c1 c2 c3 c4 c5 o5 o0 o2 o3 : ℕ) → List ℕ

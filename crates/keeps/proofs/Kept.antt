@@ -1,5 +1,5 @@
 -- The theorem of each edit: from a well-formed table, where its refusals are passed, it keeps what Kept says. Assumes nothing.
-use Prim.Native.Nat.{ℕ, _+_, _*_, _≤_, _<_}
+use Prim.Native.Nat.{ℕ, _+_, _*_, _≤_}
 use mathlib.Core.Path.{_≡_, refl, sym, ap, _∙_}
 use mathlib.Core.Logic.{_≢_}
 use mathlib.Core.Bool.{Bool, true, false, cond}
@@ -8,21 +8,18 @@ use native.Mathlib.Omega.{arith}
 use native.Mathlib.Decide.{ℕ-discrete}
 use borrow.Author.Tests.{eq-eqb, ne-eqb}
 use lib.Dec.{eqb}
-use lib.Ieee.{Float}
 use lib.ListN.{length, set, length-set}
 use Rattle.corner.specs.Corner.{absent, next, previous, firstCorner}
 use Rattle.vertex.specs.declared.Point.{Point}
 use Rattle.vertex.specs.Point.{finitePoint}
-use Rattle.table.specs.Slots.{relabel}
-use Rattle.table.specs.Table.{Table, table, cornerRoom, vertexRoom, vertex, opposite, Live, Shaped}
+use Rattle.table.specs.Table.{Table, cornerRoom, vertexRoom, vertex, opposite, Live, Shaped}
 use Rattle.table.specs.Rules.{WellFormed}
 use Rattle.table.specs.Euler.{SameEuler}
 use Rattle.fan.proofs.Relabel.{length-relabel}
-use Rattle.edit.specs.Plans.{around, triangle}
 use Rattle.edit.specs.Flip.{flipVertices, flipOpposites, flipCorners, flipEdge}
 use Rattle.edit.specs.SplitFace.{faceVertices, faceOpposites, faceCorners, splitFace}
 use Rattle.edit.specs.SplitEdge.{splitPoints, splitCorners, innerVertices, innerOpposites, splitInnerEdge, boundaryVertices, boundaryOpposites, splitBoundaryEdge, splitEdge}
-use Rattle.edit.specs.Collapse.{winged, either, collapseVertices, collapseOpposites, collapseMarks, collapseCorners, collapseEdge}
+use Rattle.edit.specs.Collapse.{winged, collapseVertices, collapseOpposites, collapseMarks, collapseCorners, collapseEdge}
 use Rattle.edge_collapse.specs.EdgeCollapse.{affectsBoundary, unsafe}
 use Rattle.keeps.specs.Keeps.{Kept}
 use Rattle.keeps.proofs.FlipTable.{flip-wf}

@@ -1,16 +1,15 @@
 -- Six corners more: marks, and who is live. Assumes nothing.
-use mathlib.Core.Path.{_≡_, refl, ap, sym, _∙_, subst}
-use mathlib.Core.Logic.{_≢_, _⊎_, inl, inr}
-use mathlib.Core.List.{List}
-use Prim.Native.Nat.{ℕ, zero, suc, _+_, _≤_, _<_, _%_}
+use mathlib.Core.Path.{_≡_, refl, sym, _∙_}
+use mathlib.Core.Logic.{_⊎_, inl, inr}
+use Prim.Native.Nat.{ℕ, _+_, _≤_, _<_, _%_}
 use native.Mathlib.Omega.{arith}
-use native.Mathlib.Decide.{ℕ-discrete, decLt}
-use lib.ListN.{length, getD, set, length-set}
-use Rattle.corner.specs.Corner.{next, previous}
+use native.Mathlib.Decide.{decLt}
+use lib.ListN.{length, getD}
+use Rattle.corner.specs.Corner.{next}
 use Rattle.corner.proofs.Turns.{next-below, next-first, next-second, next-last}
-use Rattle.fan.proofs.Redirect.{at, at-same, at-other, at-ind, Seen, set-seen}
+use Rattle.fan.proofs.Redirect.{at, at-same, at-other, Seen}
 use Rattle.table.specs.Slots.{markAt}
-use Rattle.table.specs.Table.{Table, Live, LiveVertex, Shaped}
+use Rattle.table.specs.Table.{Table, Live}
 use Rattle.table.specs.Rules.{WellFormed}
 use Rattle.keeps.proofs.SplitInner.{in-six}
 use Rattle.keeps.proofs.Writes.{push6, push6-seen, push6-old, marks-grown}

@@ -1,8 +1,8 @@
 -- The refusals of a collapse, passed, are what its proof needs. Assumes nothing.
 use Prim.Native.Nat.{ℕ, _/_}
-use mathlib.Core.Path.{_≡_, refl, sym, ap, _∙_}
+use mathlib.Core.Path.{_≡_, sym, ap, _∙_}
 use mathlib.Core.Logic.{_≢_, _⊎_, inl, inr}
-use mathlib.Core.Bool.{Bool, false}
+use mathlib.Core.Bool.{false}
 use Rattle.corner.specs.Corner.{absent, next, previous}
 use Rattle.corner.proofs.Turns.{next-next, previous-next, next-face, InFace, itself, after, before, in-face}
 use Rattle.table.specs.Table.{Table, vertex, opposite, Live, Shaped}
@@ -10,7 +10,7 @@ use Rattle.table.specs.Rules.{WellFormed}
 use Rattle.fan.proofs.Fan.{Linked}
 use Rattle.fan.proofs.Tables.{table-linked}
 use Rattle.edge_collapse.specs.EdgeCollapse.{affectsBoundary, unsafe}
-use Rattle.edge_collapse.specs.Paper.{BorderEdge, ThirdFace}
+use Rattle.edge_collapse.specs.Paper.{ThirdFace}
 use Rattle.edge_collapse.proofs.Paper.{unaffected, inner, safe}
 use Rattle.keeps.proofs.Collapse.{Six, is24, is25, is26, is9, is10, is11}
 use Rattle.keeps.proofs.CollapseTable.{Safe}

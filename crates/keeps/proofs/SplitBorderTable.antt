@@ -4,14 +4,14 @@ use lib.Ieee.{Float}
 use mathlib.Core.Path.{_≡_, refl, ap, sym, _∙_, subst}
 use mathlib.Core.Logic.{_≢_, _⊎_, inl, inr}
 use mathlib.Core.List.{List, List·Memᴰ}
-use Prim.Native.Nat.{ℕ, zero, suc, _+_, _≤_, _<_, _%_}
+use Prim.Native.Nat.{ℕ, _+_, _≤_, _<_, _%_}
 use native.Mathlib.Omega.{arith}
 use native.Mathlib.Decide.{ℕ-discrete, decLt}
 use lib.ListN.{length, getD, set, length-set}
 use Rattle.corner.specs.Corner.{next, previous}
 use Rattle.corner.proofs.Turns.{next-below, next-first, next-second, next-last, next-previous, next-three}
 use Rattle.corner.specs.Corner.{absent}
-use Rattle.fan.proofs.Fan.{Linked, OneFan, opp-of, opp-not-self, face-previous}
+use Rattle.fan.proofs.Fan.{Linked, opp-of, opp-not-self, face-previous}
 use Rattle.keeps.proofs.SplitFace.{Face3, face3}
 use Rattle.keeps.proofs.SplitBorder.{Rim, rim-linked, rim-fan}
 use Rattle.fan.proofs.Redirect.{at, at-same, at-other, at-ind, Seen, set-seen}

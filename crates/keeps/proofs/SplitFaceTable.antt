@@ -1,17 +1,17 @@
 -- The split of a face on the lists. Assumes nothing.
 use mathlib.Core.Path.{_≡_, refl, ap, sym, _∙_, subst}
-use mathlib.Core.Logic.{_≢_, Ne·symm, _⊎_, inl, inr}
+use mathlib.Core.Logic.{_≢_, _⊎_, inl, inr}
 use mathlib.Core.Bool.{true}
 use mathlib.Core.List.{List}
 use lib.Ieee.{Float}
-use Prim.Native.Nat.{ℕ, zero, suc, _+_, _*_, _≤_, _<_, _%_}
+use Prim.Native.Nat.{ℕ, _+_, _≤_, _<_}
 use native.Mathlib.Omega.{arith}
-use native.Mathlib.Decide.{ℕ-discrete, decLt}
+use native.Mathlib.Decide.{ℕ-discrete}
 use lib.ListN.{length, getD, set, length-set}
-use Rattle.corner.specs.Corner.{next, previous}
-use Rattle.corner.proofs.Turns.{next-differs, previous-differs, next-next}
+use Rattle.corner.specs.Corner.{next}
+use Rattle.corner.proofs.Turns.{next-differs}
 use Rattle.corner.specs.Corner.{absent, firstCorner}
-use Rattle.fan.proofs.Fan.{Linked, OneFan, opp-of, face-previous, opp-not-self, opp-not-next, opp-not-previous}
+use Rattle.fan.proofs.Fan.{Linked, opp-of, opp-not-self, opp-not-next, opp-not-previous}
 use Rattle.keeps.proofs.SplitFace.{Face3, face3, Cut, cut-linked, cut-fan}
 use Rattle.fan.proofs.Redirect.{at, at-same, at-other, at-ind, Seen, set-seen}
 use Rattle.vertex.specs.declared.Point.{Point}
@@ -22,10 +22,10 @@ use Rattle.table.specs.Slots.{paired, pointAt, withPoint}
 use Rattle.fan.proofs.Tables.{table-linked, table-fan, fan-table, inside}
 use Rattle.keeps.proofs.Writes.{paired-seen, push6, push6-seen, push6-old, six-push6}
 use Rattle.keeps.proofs.SplitInner.{in-six}
-use Rattle.keeps.proofs.NewFaces.{Live6, grow, fresh, shrink, corner-marks, face-marks, next6, next7, next9, next10}
+use Rattle.keeps.proofs.NewFaces.{grow, fresh, shrink, corner-marks, face-marks, next6, next7, next9, next10}
 use Rattle.keeps.proofs.NewVertex.{LiveV1, old-vertex, new-one, was-vertex, vertex-marks, placed-finite}
 use Rattle.edit.specs.Plans.{triangle}
-use Rattle.edit.specs.SplitFace.{six, faceVertices, faceOpposites, faceCorners, splitFace}
+use Rattle.edit.specs.SplitFace.{faceVertices, faceOpposites, faceCorners, splitFace}
 
 module _ (t : Table) (Z : Shaped t) (W : WellFormed t) (room : t .corners + 6 ≤ length (t .cornerMark)) (vroom : t .vertices + 1 ≤ length (t .vertexMark))
     (c0 c1 c2 : ℕ) (f0 : Face3 c0 c1 c2) (l0 : Live t c0) (l1 : Live t c1) (l2 : Live t c2)

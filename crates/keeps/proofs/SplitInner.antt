@@ -5,10 +5,10 @@ use Prim.Native.Nat.{ℕ, _+_, _≤_, _<_}
 use native.Mathlib.Omega.{arith}
 use native.Mathlib.Decide.{ℕ-discrete}
 use Rattle.corner.specs.Corner.{next, previous}
-use Rattle.corner.proofs.Turns.{next-next, next-previous, previous-next, next-injective, previous-injective}
+use Rattle.corner.proofs.Turns.{next-previous, previous-next}
 use Rattle.corner.specs.Corner.{absent}
 use Rattle.table.specs.Rules.{Mate}
-use Rattle.fan.proofs.Fan.{Left, Conn, stay, fore, conn-trans, conn-sym, conn-eq, simulate, Linked, OneFan, mate-sym, mate-at, linked, face-previous, opp-not-self, opp-not-next, opp-not-previous, opp-of}
+use Rattle.fan.proofs.Fan.{Left, Conn, stay, fore, conn-trans, conn-sym, conn-eq, simulate, Linked, OneFan, mate-sym, mate-at, linked, face-previous, opp-not-self, opp-not-next, opp-of}
 use Rattle.keeps.proofs.SplitFace.{Face3}
 use Rattle.fan.proofs.Redirect.{at, at-same, at-other}
 

@@ -2,22 +2,19 @@
 use mathlib.Core.Bool.{true}
 use lib.Ieee.{Float}
 use mathlib.Core.Path.{_≡_, refl, ap, sym, _∙_, subst}
-use mathlib.Core.Logic.{_≢_, Ne·symm, _⊎_, inl, inr}
-use mathlib.Core.List.{List, [], _∷_, List·Memᴰ}
-use Prim.Native.Nat.{ℕ, zero, suc, _+_, _-_, _≤_, _<_, _%_}
+use mathlib.Core.Logic.{_≢_, _⊎_, inl, inr}
+use mathlib.Core.List.{List, [], List·Memᴰ}
+use Prim.Native.Nat.{ℕ, _+_, _-_, _≤_, _<_}
 use native.Mathlib.Omega.{arith}
-use native.Mathlib.Decide.{ℕ-discrete, decLt}
+use native.Mathlib.Decide.{ℕ-discrete}
 use lib.ListN.{length, getD, set, length-set}
-use lib.Seq.{getD-set-same, getD-set-other}
-use Rattle.corner.specs.Corner.{next, previous}
-use Rattle.corner.proofs.Turns.{next-next, next-previous, previous-next, next-below, next-first, next-second, next-last}
+use Rattle.corner.specs.Corner.{next}
 use Rattle.corner.specs.Corner.{absent}
-use Rattle.table.specs.Rules.{Mate}
-use Rattle.fan.proofs.Fan.{Linked, OneFan, linked, opp-of, face-previous, opp-not-self}
-use Rattle.keeps.proofs.SplitFace.{Face3, face3}
+use Rattle.fan.proofs.Fan.{Linked, opp-of, opp-not-self}
+use Rattle.keeps.proofs.SplitFace.{face3}
 use Rattle.fan.proofs.Redirect.{at, at-same, at-other, at-ind, Seen, set-seen}
 use Rattle.table.specs.Slots.{relabel}
-use Rattle.fan.proofs.Relabel.{relabel-in, relabel-out, length-relabel}
+use Rattle.fan.proofs.Relabel.{relabel-in, relabel-out}
 use Rattle.fan.proofs.Visits.{Sound}
 use Rattle.ring.specs.Ring.{ring}
 use Rattle.ring.proofs.Exact.{ring-sound}
@@ -29,11 +26,11 @@ use Rattle.vertex.specs.Point.{finitePoint}
 use Rattle.table.specs.Table.{Table, table, Live, LiveVertex, opposite, vertex, corner, Shaped}
 use Rattle.table.specs.Rules.{WellFormed}
 use Rattle.table.specs.Slots.{paired, pointAt}
-use Rattle.fan.proofs.Tables.{below-absent, table-linked, table-fan, fan-table, inside}
+use Rattle.fan.proofs.Tables.{table-linked, table-fan, fan-table, inside}
 use Rattle.keeps.proofs.Writes.{paired-seen, push6, push6-seen, push6-old, six-push6}
 use Rattle.keeps.proofs.NewFaces.{grow, fresh, shrink, corner-marks, face-marks, next6, next7, next9, next10}
 use Rattle.keeps.proofs.NewVertex.{LiveV1, old-vertex, new-one, was-vertex, vertex-marks, split-finite}
-use Rattle.keeps.proofs.SplitInner.{SplitSite, Split, split-linked, split-fan, in-six, l2, l0, l4, l5, l3, b4, v5, v3, d12, d20, d01, d42, x0-5, x2-3}
+use Rattle.keeps.proofs.SplitInner.{SplitSite, Split, split-linked, split-fan, in-six, l2, l0, l4, l5, l3, v3, x0-5}
 
 module _ (t : Table) (Z : Shaped t) (W : WellFormed t) (room : t .corners + 6 ≤ length (t .cornerMark)) (vroom : t .vertices + 1 ≤ length (t .vertexMark))
     (c1 c2 c0 c4 c5 c3 : ℕ) (A : SplitSite (Live t) (opposite t) (vertex t) c1 c2 c0 c4 c5 c3)

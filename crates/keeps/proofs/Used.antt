@@ -1,12 +1,12 @@
 -- On a well-formed table an edit's plan, and the ring that it renumbers, name used slots alone: no total read or write falls back. Assumes
 -- nothing.
 use Prim.Native.Nat.{ℕ, _<_}
-use mathlib.Core.Path.{_≡_, refl}
-use mathlib.Core.Logic.{_≢_, _⊎_, inl, inr}
-use mathlib.Core.List.{List, List·Memᴰ}
+use mathlib.Core.Path.{_≡_}
+use mathlib.Core.Logic.{_≢_, inl, inr}
+use mathlib.Core.List.{List·Memᴰ}
 use native.Mathlib.Decide.{ℕ-discrete}
 use Rattle.corner.specs.Corner.{absent, next}
-use Rattle.table.specs.Table.{Table, vertex, opposite, corner, Live, LiveVertex, Shaped}
+use Rattle.table.specs.Table.{Table, vertex, opposite, Live, Shaped}
 use Rattle.table.specs.Rules.{WellFormed}
 use Rattle.fan.proofs.Fan.{Linked}
 use Rattle.fan.proofs.Tables.{table-linked}

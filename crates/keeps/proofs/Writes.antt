@@ -10,7 +10,7 @@ use lib.ListN.{length, getD, set, length-set, List·getD-eq-default}
 use lib.Seq.{getD-set-same, getD-set-other}
 use Rattle.vertex.specs.declared.Point.{Point}
 use Rattle.table.specs.Slots.{markAt, nought, pointAt, withPoint, paired, three}
-use Rattle.fan.proofs.Redirect.{at, at-same, at-other, at-ind, Seen, set-seen, set-at}
+use Rattle.fan.proofs.Redirect.{at, at-other, at-ind, Seen, set-seen, set-at}
 use Rattle.edit.specs.SplitFace.{six}
 
 pub length-paired : (o : List ℕ) (a b : ℕ) → length (paired o a b) ≡ length o

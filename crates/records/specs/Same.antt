@@ -7,7 +7,6 @@ use lib.Dec.{eqb, leb}
 use lib.Ieee.{Float, toBits, ofBits, binary32}
 use lib.ListN.{length, getD}
 use Rattle.table.specs.Slots.{nought}
-use Rattle.records.specs.Words.{numberNo}
 
 -- whether every number below n passes the test
 unfoldable pub every : ℕ → (ℕ → Bool) → Bool

@@ -1,6 +1,6 @@
 -- Which ring and which move a kind asks for.
 use Prim.Native.Nat.{ℕ}
-use mathlib.Core.Path.{_≡_, refl, ap, sym, _∙_}
+use mathlib.Core.Path.{_≡_}
 use borrow.Author.Tests.{ne-eqb}
 use Rattle.table.specs.Table.{Table}
 use Rattle.traversal.specs.declared.Kind.the-variants.{Corners, Vertices, Faces, Edges, BoundingEdges}

@@ -1,21 +1,21 @@
 -- On a table with R1 to R4 the ring is the walk that closes or meets a border, so it is exactly the fan, none twice. Assumes nothing.
-use mathlib.Core.Path.{_≡_, refl, ap, sym, _∙_}
+use mathlib.Core.Path.{_≡_}
 use mathlib.Core.Logic.{_≢_}
 use mathlib.Core.Bool.{Bool, true, false, cond}
 use mathlib.Core.List.{List, [], _∷_, _++_}
-use Prim.Native.Nat.{ℕ, zero, suc, _+_, _≤_, _<_}
+use Prim.Native.Nat.{ℕ, zero, suc, _+_, _<_}
 use native.Mathlib.Omega.{arith}
 use borrow.Author.Tests.{eq-eqb, ne-eqb}
 use Rattle.corner.specs.Corner.{absent, turn}
 use Rattle.table.specs.Slots.{oppositeAt}
-use Rattle.table.specs.Table.{Table, vertex, opposite, Live, Shaped}
+use Rattle.table.specs.Table.{Table, vertex, Live, Shaped}
 use Rattle.table.specs.Rules.{WellFormed}
 use Rattle.fan.proofs.Fan.{swingL, swingR, Linked}
 use Rattle.fan.proofs.Walk.{it, Stop, border, closes, Walk}
 use Rattle.fan.proofs.Ring.{stuckL, stuckR}
 use Rattle.fan.proofs.Visits.{after, Covers, Sound, w, v, leftward, rightward, ring-covers, fan-covers, covers-sound}
 use Rattle.fan.proofs.Tables.{table-linked, table-fan}
-use Rattle.ring.specs.Ring.{Side, stop, more, side, ring}
+use Rattle.ring.specs.Ring.{side, ring}
 
 module _ (live : ℕ → Type 0) (co : List ℕ) (n : ℕ) (left : Bool) where
   abbrev swing : ℕ → ℕ

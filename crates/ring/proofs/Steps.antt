@@ -1,7 +1,7 @@
 -- A turn of the walk, by what was read. The walk stands on `via`, the corner that it crosses from: the corner it has come to is the other
 -- turn of that. Assumes nothing.
-use mathlib.Core.Path.{_≡_, refl, ap, sym, _∙_}
-use mathlib.Core.Bool.{Bool, true, false, cond, not}
+use mathlib.Core.Path.{_≡_, ap, sym, _∙_}
+use mathlib.Core.Bool.{Bool, true, false, not}
 use mathlib.Core.List.{List}
 use Prim.Native.Nat.{ℕ, zero, suc, _-_, _<_}
 use native.Mathlib.Omega.{arith}
@@ -9,7 +9,7 @@ use borrow.Author.Tests.{eq-eqb, ne-eqb}
 use Rattle.corner.specs.Corner.{absent, turn}
 use Rattle.corner.proofs.Turns.{turn-back, not-turn-twice}
 use Rattle.table.specs.Slots.{oppositeAt}
-use Rattle.ring.specs.Ring.{Side, stop, more, side}
+use Rattle.ring.specs.Ring.{stop, more, side}
 
 -- where a walk stands that crosses from via
 abbrev pub stands : Bool → ℕ → ℕ

@@ -1,20 +1,18 @@
 -- The arms of a run. Assumes nothing.
-use Prim.Native.Nat.{ℕ, _/_, _%_, _*_, _≤_, _<_}
-use mathlib.Core.Path.{_≡_, refl, sym, ap, _∙_}
-use mathlib.Core.Bool.{Bool, true, false, cond, _&&_}
+use Prim.Native.Nat.{ℕ, _/_, _%_}
+use mathlib.Core.Path.{_≡_, sym, ap, _∙_}
+use mathlib.Core.Bool.{Bool, true, false}
 use mathlib.Core.List.{List}
 use native.Mathlib.Omega.{arith}
-use borrow.Author.Tests.{eq-eqb, ne-eqb, eqb-true, leb-true}
-use lib.Dec.{eqb, leb}
+use borrow.Author.Tests.{eq-eqb, ne-eqb}
+use lib.Dec.{leb}
 use lib.ListN.{length}
-use Rattle.table.specs.Table.{Table, shaped, Shaped}
-use Rattle.table.specs.Rules.{WellFormed}
+use Rattle.table.specs.Table.{Table, shaped}
 use Rattle.checker.specs.declared.Verdict.{Verdict}
 use Rattle.checker.specs.Order.{verdictOf}
 use Rattle.checker.proofs.Judge.{verdict-sound}
-use Rattle.keeps.specs.Keeps.{Kept}
 use Rattle.step.specs.Stepped.{Good}
-use Rattle.script.specs.Run.{progress, commands, whole, fits, run, Completed, Outcome}
+use Rattle.script.specs.Run.{fits, run, Completed, Outcome}
 
 pub fits-by : (words answers : ℕ) (b : Bool) → b ≡ leb (words / 5) answers → words % 5 ≡ 0 → b ≡ fits words answers
 unfolding fits

@@ -1,20 +1,17 @@
 -- The loop over the commands: what is left of the script takes the table as it is now to where the whole script takes the first one.
 -- Assumes nothing.
-use Prim.Native.Nat.{ℕ, zero, suc, _+_, _-_, _*_, _≤_, _<_}
+use Prim.Native.Nat.{ℕ, suc, _+_, _-_, _*_, _≤_, _<_}
 use mathlib.Core.Path.{_≡_, refl, sym, ap, subst, _∙_}
 use mathlib.Core.List.{List}
 use native.Mathlib.Omega.{arith}
 use lib.ListN.{length, set, length-set}
-use Rattle.table.specs.Table.{Table, cornerRoom, vertexRoom, Shaped}
-use Rattle.table.specs.Rules.{WellFormed}
+use Rattle.table.specs.Table.{Table, Shaped}
 use Rattle.keeps.specs.Keeps.{Kept}
 use Rattle.command.specs.declared.Edit.{Edit}
 use Rattle.command.specs.Decode.{commandAt}
-use Rattle.command.specs.Answers.{answer}
-use Rattle.command.specs.Step.{step}
 use Rattle.command.proofs.Passed.{step-kept}
 use Rattle.step.specs.Stepped.{Good, Stepped}
-use Rattle.script.specs.Run.{Progress, progress, commands, Completed}
+use Rattle.script.specs.Run.{commands, Completed}
 
 pub kept-trans : {t u v : Table} → Kept t u → Kept u v → Kept t v
 kept-trans a b =

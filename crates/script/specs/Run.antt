@@ -1,12 +1,11 @@
 -- Document 01, "The script": "The run checks the table once, then writes one answer word per command and goes on after a refused one."
-use Prim.Native.Nat.{ℕ, zero, suc, _+_, _*_, _/_, _%_}
+use Prim.Native.Nat.{ℕ, zero, suc, _+_, _/_, _%_}
 use mathlib.Core.Bool.{Bool, cond, _&&_}
 use mathlib.Core.Path.{_≡_}
 use mathlib.Core.List.{List}
 use lib.Dec.{eqb, leb}
 use lib.ListN.{length, set}
 use Rattle.table.specs.Table.{Table, shaped}
-use Rattle.checker.specs.declared.Verdict.{Verdict}
 use Rattle.checker.specs.Order.{verdictOf}
 use Rattle.keeps.specs.Keeps.{Kept}
 use Rattle.command.specs.Decode.{commandAt}

@@ -1,13 +1,13 @@
 -- A command by its answer: refused, the table is as it was; done, it is the effect. Assumes nothing.
-use Prim.Native.Nat.{ℕ, _+_, _≤_, _<_}
-use mathlib.Core.Path.{_≡_, refl, sym, ap, subst, _∙_}
+use Prim.Native.Nat.{ℕ, _+_, _<_}
+use mathlib.Core.Path.{_≡_, refl, sym, subst, _∙_}
 use mathlib.Core.List.{List}
 use native.Mathlib.Decide.{decLt}
 use lib.ListN.{length, getD, List·getD-eq-default}
 use mathlib.Core.Logic.{_≢_}
 use native.Mathlib.Omega.{arith}
 use borrow.Author.Tests.{eq-eqb, ne-eqb}
-use mathlib.Core.Bool.{Bool, false, cond}
+use mathlib.Core.Bool.{cond}
 use lib.Dec.{eqb}
 use Rattle.corner.specs.Corner.{absent, firstCorner}
 use Rattle.corner.specs.declared.Corner.{Corner}
@@ -18,13 +18,12 @@ use Rattle.edit.specs.Flip.{flipEdge}
 use Rattle.edit.specs.SplitFace.{splitFace}
 use Rattle.edit.specs.SplitEdge.{splitEdge}
 use Rattle.edit.specs.Collapse.{collapseEdge}
-use Rattle.table.specs.Table.{Table, opposite, Shaped}
-use Rattle.table.specs.Rules.{WellFormed}
+use Rattle.table.specs.Table.{Table, opposite}
 use Rattle.edge_collapse.specs.EdgeCollapse.{affectsBoundary}
 use Rattle.edge_collapse.proofs.Paper.{inner}
 use Rattle.command.specs.declared.Edit.{Edit}
 use Rattle.command.specs.declared.Edit.the-variants.{Collapse, Flip, SplitEdge, SplitFace, Unknown}
-use Rattle.command.specs.Answers.{first, when, cornerTarget, faceTarget, noRoom, noOpposite, collapseAnswer, flipAnswer, splitEdgeAnswer, splitFaceAnswer, answer}
+use Rattle.command.specs.Answers.{collapseAnswer, flipAnswer, splitEdgeAnswer, splitFaceAnswer, answer}
 use Rattle.command.specs.Step.{effect, step}
 use Rattle.command.proofs.Chain.{first-left, first-right, when-false}
 use Rattle.command.proofs.Passed.{corner-live, face-live, room-passed, opposite-there}

@@ -1,5 +1,4 @@
 -- A move that C gets is the definition's, where the walker's function answers the definition and the answer is told. Assumes nothing.
-use Prim.Native.Nat.{ℕ}
 use mathlib.Core.Path.{_≡_, refl, subst}
 use Rattle.walker.specs.declared.Moved.{Moved as Move}
 use Rattle.strandomir.specs.declared.Moved.{Moved}

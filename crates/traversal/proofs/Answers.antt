@@ -1,20 +1,20 @@
 -- The whole walk by what its two sides were found to be, and a call's outcome, an arm at a time. Assumes nothing.
-use Prim.Native.Nat.{ℕ, suc, _+_, _-_, _*_, _<_, _≤_, min}
+use Prim.Native.Nat.{ℕ, suc, _+_, _-_, _<_, _≤_}
 use mathlib.Core.Path.{_≡_, refl, sym, ap, _∙_}
 use mathlib.Core.List.{List, [], _∷_, _++_, map}
-use mathlib.Core.Bool.{Bool, true, false, cond, _&&_, false≢true}
+use mathlib.Core.Bool.{Bool, true, false, cond}
 use native.Mathlib.Omega.{arith}
 use native.Mathlib.Nat.{add-zero, zero-add, add-suc, suc-add}
 use native.Mathlib.Numerals.{add-one}
 use borrow.Author.Tests.{leb-true, leb-false, le-leb, lt-leb, lt-ltb, le-ltb, eq-eqb, ne-eqb}
-use lib.ListN.{length, getD, drop, set, length-map, length-append}
+use lib.ListN.{length, drop, set, length-map, length-append}
 use lib.Seq.{sets, sets-eq}
 use Rattle.table.specs.Slots.{markAt, oppositeAt}
 use lib.Dec.{leb}
 use Rattle.corner.specs.Corner.{next, previous}
 use Rattle.table.specs.Table.{Table, Shaped, shaped, corner}
 use Rattle.table.proofs.Shape.{shaped-true}
-use Rattle.traversal.specs.Walk.{faceLive, Side, side, Walk, tangled, closed, open′, leftOf, rightOf, afterLeft, afterRight, walk, visits}
+use Rattle.traversal.specs.Walk.{faceLive, side, tangled, closed, open′, leftOf, rightOf, afterLeft, afterRight, walk, visits}
 use Rattle.traversal.specs.Lists.{entry, twice, entries}
 use Rattle.traversal.specs.Ring.{Outcome, outcome, refused, listed, walked, usedCorners, usedVertices, begun, ringOf, counted, needed, tooShort}
 use Rattle.traversal.specs.Reached.{reached, Inside, Fit}

@@ -1,22 +1,20 @@
 -- "A well-formed table never gets 15, and the visits are then exactly the corners of that vertex": the walk of the definition is the
 -- walk of the theory of fans, which closes or meets a border at both ends. Assumes nothing.
 use Prim.Native.Nat.{ℕ, zero, suc, _+_, _-_, _≤_, _<_, min}
-use mathlib.Core.Path.{_≡_, refl, ap, sym, _∙_, subst}
+use mathlib.Core.Path.{_≡_, refl, ap, sym, _∙_}
 use mathlib.Core.Logic.{_≢_}
-use mathlib.Core.Bool.{Bool, true, false, cond, _&&_, false≢true}
-use mathlib.Core.List.{List, [], _∷_, _++_, List·Memᴰ}
+use mathlib.Core.Bool.{Bool, true, false, cond, _&&_}
+use mathlib.Core.List.{List, [], _++_, List·Memᴰ}
 use native.Mathlib.Omega.{arith}
 use borrow.Author.Tests.{eq-eqb, ne-eqb, ltb-true, eqb-true}
 use lib.Dec.{eqb, ltb, leb}
 use lib.ListN.{length, drop}
 use Rattle.corner.specs.Corner.{absent, next, previous, turn}
-use Rattle.corner.specs.declared.Corner.{Corner}
 use Rattle.table.specs.Slots.{oppositeAt, markAt}
-use Rattle.table.specs.Table.{Table, live, cornerRoom, vertexRoom, shaped, Shaped, vertex, opposite, corner, Live, LiveVertex}
+use Rattle.table.specs.Table.{Table, vertexRoom, shaped, Shaped, vertex, corner, Live, LiveVertex}
 use Rattle.table.specs.Rules.{WellFormed}
 use Rattle.table.proofs.Lives.{true-live}
-use Rattle.table.proofs.Shape.{shaped-true}
-use Rattle.fan.proofs.Fan.{swingL, swingR, Left, Conn, Linked, OneFan, face-previous}
+use Rattle.fan.proofs.Fan.{swingL, swingR, Linked, OneFan, face-previous}
 use Rattle.fan.proofs.Walk.{it, Stop, border, closes, Walk}
 use Rattle.fan.proofs.Ring.{stuckL, stuckR, open-right}
 use Rattle.fan.proofs.Visits.{after, length-after, Covers, Sound, w, v, leftward, rightward, ring-covers, fan-covers, total, covers-sound}
@@ -25,12 +23,12 @@ use Rattle.traversal.specs.Walk as Specs
 use Rattle.traversal.specs.Walk.{faceLive, swing, Side, stop, more, side, leftOf, rightOf, tangled, closed, open′, afterLeft, afterRight, walk, visits}
 use Rattle.traversal.specs.Lists.{entries}
 use Rattle.traversal.specs.Ring.{listed, refused, walked, usedCorners, usedVertices, walkOf, ringOf}
-use Rattle.traversal.specs.Promises.{VisitsBounded, NeverTangled, Exact, VisitsExact}
+use Rattle.traversal.specs.Promises.{VisitsBounded, NeverTangled, VisitsExact}
 use Rattle.traversal.proofs.Answers.{visits-bound}
 use Rattle.traversal.proofs.Steps.{lives-face, swing-border, swing-to, side-border, side-closed, side-more}
 use Rattle.traversal.specs.declared.Kind.{Kind}
 use Rattle.traversal.specs.declared.End.{End}
-use Rattle.traversal.specs.declared.End.the-variants.{AtBorder, AtTangle, AtStart}
+use Rattle.traversal.specs.declared.End.the-variants.{AtBorder, AtStart}
 
 -- ---- one side
 

@@ -1,16 +1,14 @@
 -- The steps and the refusals of a move, an arm at a time. Assumes nothing.
 use Prim.Native.Nat.{ℕ, _<_, _≤_}
-use mathlib.Core.Path.{_≡_, refl, sym, ap, _∙_}
-use mathlib.Core.Logic.{_≢_}
+use mathlib.Core.Path.{_≡_, _∙_}
 use mathlib.Core.List.{List}
-use mathlib.Core.Bool.{Bool, true, false, cond, _&&_}
+use mathlib.Core.Bool.{Bool, true, false}
 use borrow.Author.Tests.{lt-ltb, le-ltb, eq-eqb, ne-eqb}
-use lib.Dec.{ltb, eqb}
 use lib.ListN.{length}
-use Rattle.corner.specs.Corner.{absent, next, previous, turn}
+use Rattle.corner.specs.Corner.{absent, turn}
 use Rattle.table.specs.Slots.{oppositeAt, markAt}
 use Rattle.table.specs.Table.{Table, shaped, live}
-use Rattle.walker.specs.Walker.{stays, arrives, standing, refusal, stepTo, stepOver, swingOver, swingTo, unless}
+use Rattle.walker.specs.Walker.{stays, arrives, standing, refusal, stepTo, stepOver, swingTo, unless}
 use Rattle.walker.specs.declared.Moved.{Moved}
 
 module _ (mark : List ℕ) (n c : ℕ) (r : Moved) where

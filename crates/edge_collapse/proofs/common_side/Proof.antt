@@ -1,16 +1,15 @@
 use Rattle.edge_collapse.proofs.Loops.{left-border, left-closed, left-more, begins, Counting, counting-start, counting-stop, counting-more, counted-home, neighbour}
 use Rattle.edge_collapse.specs.EdgeCollapse.{neighbours, timesIn}
 use Rattle.ring.proofs.Steps.{stands, side-out}
-use Rattle.ring.specs.Ring.{Side, side}
+use Rattle.ring.specs.Ring.{side}
 use Rattle.table.specs.Slots.{vertexAt}
 use Rattle.corner.proofs.Turns.{previous-next}
 use Rattle.corner.specs.Corner.{next, previous}
 use lib.Dec.{ltb}
 use borrow.Author.Needs.{needs}
 use native.Mathlib.Omega.{arith}
-use Prim.Native.Nat.{ℕ}
-use mathlib.Core.Bool.{Bool, true, false}
-use mathlib.Core.Path.{_≡_, refl, ap, sym}
+use mathlib.Core.Bool.{true, false}
+use mathlib.Core.Path.{sym}
 use denote.Ref.{now}
 use Rattle.edge_collapse.proofs.common_side.Statement.{statement}
 use Rattle.edge_collapse.proofs.common_side.Tie as tie

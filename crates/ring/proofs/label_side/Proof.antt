@@ -1,7 +1,6 @@
 use Rattle.ring.proofs.Labels.{Labelling, labelling-start, labelling-stop, labelling-more}
 use Rattle.ring.proofs.Steps.{stands, stands-first, side-border, side-closed, side-more, side-out}
 use Rattle.ring.specs.Ring.{side}
-use Prim.Native.Nat.{ℕ}
 use borrow.Author.Needs.{needs}
 use native.Mathlib.Omega.{arith}
 use mathlib.Core.Path.{ap}

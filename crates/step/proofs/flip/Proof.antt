@@ -2,8 +2,7 @@ use Rattle.step.proofs.Arms.{refused, done, present, flip-ready, flip-a
 use Rattle.command.specs.declared.Edit.the-variants.{Flip}
 use Rattle.table.specs.Table.{table}
 use native.Mathlib.Omega.{arith}
-use lib.Ieee.{Float}
-use mathlib.Core.List.{List, []}
+use mathlib.Core.List.{[]}
 use mathlib.Core.Path.{sym, _∙_}
 use denote.Ref.{now}
 use borrow.Author.Needs.{needs}

@@ -1,5 +1,4 @@
 use Rattle.step.proofs.Arms.{same-command, unknown}
-use Rattle.command.specs.declared.Edit.the-variants.{Collapse, Flip, SplitEdge, SplitFace, Unknown}
 use Rattle.table.specs.Table.{table}
 use denote.Ref.{now}
 use borrow.Author.Needs.{needs}

@@ -1,6 +1,5 @@
 -- `tally::commands` meets its contract: what was counted so far is the count below i.
-use Prim.Native.Nat.{_-_, _≤_}
-use mathlib.Core.Path.{_≡_, refl, sym, _∙_}
+use Prim.Native.Nat.{_-_}
 use native.Mathlib.Omega.{arith}
 use borrow.Author.Needs.{needs}
 use Rattle.tally.proofs.Counting.{Counted, counted-start, counted-more, counted-all}

@@ -4,7 +4,7 @@ use Rattle.corner.proofs.Turns.{turn-below, turn-twice}
 use Rattle.traversal.proofs.Steps.{turn-forth, turn-face}
 use Rattle.corner.specs.Corner.{absent}
 use mathlib.Core.Bool.{not}
-use mathlib.Core.Path.{refl, sym, ap, _∙_}
+use mathlib.Core.Path.{refl, sym}
 use native.Mathlib.Omega.{arith}
 use borrow.Author.Needs.{needs}
 use Rattle.traversal.proofs.entry.Statement.{statement}

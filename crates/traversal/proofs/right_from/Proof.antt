@@ -1,5 +1,5 @@
 -- `right_from` meets its contract. Assumes nothing.
-use mathlib.Core.Path.{refl, sym, ap, _∙_}
+use mathlib.Core.Path.{ap, _∙_}
 use Rattle.table.specs.Slots.{oppositeAt}
 use denote.Ref.{now}
 use Prim.Native.Nat.{ℕ}

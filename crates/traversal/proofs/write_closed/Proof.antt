@@ -1,8 +1,7 @@
 -- `write_closed` meets its contract. Assumes nothing.
 use Rattle.traversal.proofs.Answers.{was-closed, closed-done, left-inside}
 use Rattle.traversal.proofs.Steps.{face-used}
-use mathlib.Core.Path.{refl, _∙_, ap}
-use Rattle.traversal.specs.Lists.{entry}
+use mathlib.Core.Path.{refl}
 use native.Mathlib.Omega.{arith}
 use borrow.Author.Needs.{needs}
 use Rattle.traversal.proofs.write_closed.Statement.{statement}

@@ -2,7 +2,7 @@
 use Rattle.traversal.proofs.Answers.{was-open, open-done, one-at-most, left-inside, right-inside}
 use Rattle.traversal.proofs.Steps.{face-used, face-turn}
 use Rattle.traversal.specs.Lists.{twice}
-use mathlib.Core.Path.{refl, sym, ap, _∙_}
+use mathlib.Core.Path.{refl}
 use mathlib.Core.Bool.{false}
 use native.Mathlib.Omega.{arith}
 use borrow.Author.Needs.{needs}

@@ -1,5 +1,5 @@
-use Rattle.vertex.proofs.Patterns.{no-nan-bits, nan-bits, zero-by-zero, equals-itself, differs, nan-pattern}
-use mathlib.Core.Path.{sym, ap, _∙_}
+use Rattle.vertex.proofs.Patterns.{equals-itself, differs, nan-pattern}
+use mathlib.Core.Path.{sym}
 use borrow.Author.Needs.{needs}
 use Rattle.vertex.proofs.bits_of.Statement.{statement}
 use Rattle.vertex.proofs.bits_of.Tie as tie

@@ -1,5 +1,5 @@
-use Rattle.vertex.proofs.Patterns.{no-nan-bits, nan-bits, zero-by-zero, equals-itself, differs, nan-pattern}
-use mathlib.Core.Path.{sym, ap, _∙_}
+use Rattle.vertex.proofs.Patterns.{no-nan-bits, nan-bits, zero-by-zero}
+use mathlib.Core.Path.{sym, _∙_}
 use borrow.Author.Needs.{needs}
 use Rattle.vertex.proofs.float_of.Statement.{statement}
 use Rattle.vertex.proofs.float_of.Tie as tie

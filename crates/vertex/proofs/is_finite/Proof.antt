@@ -1,4 +1,4 @@
-use lib.Ieee.{ofBits, neg, div, nanBits}
+use lib.Ieee.{ofBits, neg, nanBits}
 use Rattle.vertex.proofs.Finite.{between, not-below, not-above}
 use Rattle.vertex.proofs.is_finite.Statement.{statement}
 use Rattle.vertex.proofs.is_finite.Tie as tie
