@@ -202,16 +202,21 @@ fn ring(name: &str, kind: usize, table: &Table, turns: usize, mut rust_ring: imp
 fn rings(floor: &Floor, table: &Table, turns: usize) {
     let rust = floor.rust();
     let mut entries = vec![0u32; 64];
-    ring("ring of vertices written to a lent list, a vertex", 1, table, turns, |v| {
+    ring("ring of corners, the Rust's as its own list, a vertex", 0, table, turns, |v| {
+        black_box(Probe::collected(&rust, Probe::vertex(v)));
+    });
+    ring("ring of vertices, the Rust's visits pushed to a list, a vertex", 1, table, turns, |v| {
+        let mut list = Vec::new();
+        rust.vertices_around_vertex(Probe::vertex(v), |w| list.push(Probe::vertex_number(w)));
+        black_box(&list);
+    });
+    ring("ring of vertices, the Rust's visits written to memory at hand, a vertex", 1, table, turns, |v| {
         let mut written = 0;
         rust.vertices_around_vertex(Probe::vertex(v), |w| {
             entries[written] = Probe::vertex_number(w);
             written += 1;
         });
         black_box(&entries);
-    });
-    ring("ring of corners, the Rust's as its own list, a vertex", 0, table, turns, |v| {
-        black_box(Probe::collected(&rust, Probe::vertex(v)));
     });
 }
 
