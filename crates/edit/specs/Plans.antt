@@ -1,5 +1,5 @@
 -- What an edit reads before it writes: the corners c0.., vertices v0.. and outer opposites o0.. of a face, or of the two faces at an edge.
-use Prim.Native.Nat.{ℕ}
+use Prim.Native.Nat.{ℕ, _<_}
 use mathlib.Core.Bool.{cond}
 use mathlib.Core.List.{List, [], _∷_}
 use lib.Dec.{eqb}
@@ -72,6 +72,21 @@ around cv co c1 =
       o3 = corner (oppositeAt co c3);
       o5 = corner (oppositeAt co c5);
     }
+
+-- the six corners, and the four vertices, are slots of a list of length n
+pub record CornersThere (n : ℕ) (p : Around) : Type 0 where
+  pub c0 : p .c0 .0 < n
+  pub c1 : p .c1 .0 < n
+  pub c2 : p .c2 .0 < n
+  pub c3 : p .c3 .0 < n
+  pub c4 : p .c4 .0 < n
+  pub c5 : p .c5 .0 < n
+
+pub record VerticesThere (n : ℕ) (p : Around) : Type 0 where
+  pub v0 : p .v0 .0 < n
+  pub v1 : p .v1 .0 < n
+  pub v2 : p .v2 .0 < n
+  pub v3 : p .v3 .0 < n
 
 -- a list without the corner a
 abbrev pub without : ℕ → List ℕ → List ℕ

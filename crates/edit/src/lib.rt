@@ -4,11 +4,11 @@ ghost use mathlib.Core.Path.{_≡_};
 ghost use mathlib.Core.List.{List};
 ghost use Prim.Native.Nat.{ℕ, _+_, _<_};
 ghost use lib.Ieee.{Float};
-ghost use lib.ListN.{set};
+ghost use lib.ListN.{set, length};
 ghost use Rattle.corner.specs.Corner.{absent, firstCorner};
-ghost use Rattle.table.specs.Slots.{oppositeAt, three};
+ghost use Rattle.table.specs.Slots.{vertexAt, oppositeAt, paired, three};
 ghost use Rattle.table.specs.Table.{table};
-ghost use Rattle.edit.specs.Plans.{triangle, around};
+ghost use Rattle.edit.specs.Plans.{triangle, around, CornersThere, VerticesThere};
 ghost use Rattle.edit.specs.Flip.{flipVertices, flipOpposites, flipCorners, flipEdge};
 ghost use Rattle.edit.specs.SplitFace.{six, faceVertices, faceOpposites, faceCorners, splitFace};
 ghost use Rattle.edit.specs.SplitEdge.{splitPoints, splitCorners, innerVertices, innerOpposites, splitInnerEdge};
@@ -195,44 +195,114 @@ pub fn collapse_edge(
 }
 
 // ---- flip_edge
+//
+// On a well-formed table the slots of its plan are all there, and the caller says so: they are read and written without a test. The tests of
+// the total reads and writes, and the values that stand in past the end, were two fifths of a flip's instructions.
+
+fn vertex_there(cv: &[u32], c: Corner) -> Vertex
+    requires { ⌜ c .0 < length (now cv) ⌝ }
+    ensures { λ r. ⌜ r .0 ≡ vertexAt (now (cv .entry)) (c .0) ⌝ }
+{
+    let i = c.0 as usize;
+    Vertex(cv[i])
+}
+
+fn opposite_there(co: &[u32], c: Corner) -> Corner
+    requires { ⌜ c .0 < length (now co) ⌝ }
+    ensures { λ r. ⌜ r .0 ≡ oppositeAt (now (co .entry)) (c .0) ⌝ }
+{
+    let i = c.0 as usize;
+    Corner(co[i])
+}
+
+fn put_there(l: &mut [u32], i: u32, v: u32)
+    requires { ⌜ i < length (now l) ⌝ }
+    ensures { λ r. ⌜ now (l .exit) ≡ set (now (l .entry)) i v ⌝ }
+{
+    let k = i as usize;
+    l[k] = v;
+}
+
+// Makes a, whose slot is there, and b, which may be absent, opposite to each other.
+fn pair_there(co: &mut [u32], a: Corner, b: Corner)
+    requires { ⌜ a .0 < length (now co) ⌝ }
+    ensures { λ r. ⌜ now (co .exit) ≡ paired (now (co .entry)) (a .0) (b .0) ⌝ }
+{
+    put_there(co, a.0, b.0);
+    table::set_opposite(co, b, a);
+}
+
+fn read_there(cv: &[u32], co: &[u32], c1: Corner) -> Around
+    requires { ⌜ (c1 .0 < absent) × (oppositeAt (now co) (c1 .0) < absent) ⌝ }
+    requires { ⌜ CornersThere (length (now cv)) (around (now cv) (now co) (c1 .0)) × CornersThere (length (now co)) (around (now cv) (now co) (c1 .0)) ⌝ }
+    ensures { λ r. ⌜ r ≡ around (now (cv .entry)) (now (co .entry)) (c1 .0) ⌝ }
+{
+    let c2 = c1.next();
+    let c0 = c1.previous();
+    let c4 = opposite_there(co, c1);
+    let c5 = c4.next();
+    let c3 = c4.previous();
+    Around {
+        c0: c0,
+        c1: c1,
+        c2: c2,
+        c3: c3,
+        c4: c4,
+        c5: c5,
+        v0: vertex_there(cv, c0),
+        v1: vertex_there(cv, c1),
+        v2: vertex_there(cv, c2),
+        v3: vertex_there(cv, c4),
+        o0: opposite_there(co, c0),
+        o2: opposite_there(co, c2),
+        o3: opposite_there(co, c3),
+        o5: opposite_there(co, c5),
+    }
+}
 
 fn flip_vertices(cv: &mut [u32], p: Around)
+    requires { ⌜ CornersThere (length (now cv)) p ⌝ }
     ensures { λ r. ⌜ now (cv .exit) ≡ flipVertices p (now (cv .entry)) ⌝ }
 {
-    table::set_vertex(cv, p.c0, p.v1);
-    table::set_vertex(cv, p.c1, p.v2);
-    table::set_vertex(cv, p.c2, p.v3);
-    table::set_vertex(cv, p.c3, p.v3);
-    table::set_vertex(cv, p.c4, p.v0);
-    table::set_vertex(cv, p.c5, p.v1);
+    put_there(cv, p.c0.0, p.v1.0);
+    put_there(cv, p.c1.0, p.v2.0);
+    put_there(cv, p.c2.0, p.v3.0);
+    put_there(cv, p.c3.0, p.v3.0);
+    put_there(cv, p.c4.0, p.v0.0);
+    put_there(cv, p.c5.0, p.v1.0);
 }
 
 fn flip_opposites(co: &mut [u32], p: Around)
+    requires { ⌜ CornersThere (length (now co)) p ⌝ }
     ensures { λ r. ⌜ now (co .exit) ≡ flipOpposites p (now (co .entry)) ⌝ }
 {
-    table::make_corners_opposite(co, p.c0, p.o5);
-    table::make_corners_opposite(co, p.c1, p.c4);
-    table::make_corners_opposite(co, p.c2, p.o0);
-    table::make_corners_opposite(co, p.c3, p.o2);
-    table::make_corners_opposite(co, p.c5, p.o3);
+    pair_there(co, p.c0, p.o5);
+    put_there(co, p.c1.0, p.c4.0);
+    put_there(co, p.c4.0, p.c1.0);
+    pair_there(co, p.c2, p.o0);
+    pair_there(co, p.c3, p.o2);
+    pair_there(co, p.c5, p.o3);
 }
 
 fn flip_corners(vc: &mut [u32], p: Around)
+    requires { ⌜ VerticesThere (length (now vc)) p ⌝ }
     ensures { λ r. ⌜ now (vc .exit) ≡ flipCorners p (now (vc .entry)) ⌝ }
 {
-    table::set_corner(vc, p.v0, p.c4);
-    table::set_corner(vc, p.v1, p.c0);
-    table::set_corner(vc, p.v2, p.c1);
-    table::set_corner(vc, p.v3, p.c2);
+    put_there(vc, p.v0.0, p.c4.0);
+    put_there(vc, p.v1.0, p.c0.0);
+    put_there(vc, p.v2.0, p.c1.0);
+    put_there(vc, p.v3.0, p.c2.0);
 }
 
 pub fn flip_edge(cv: &mut [u32], co: &mut [u32], vc: &mut [u32], edge: Corner)
     requires { ⌜ (edge .0 < absent) × (oppositeAt (now co) (edge .0) < absent) ⌝ }
+    requires { ⌜ CornersThere (length (now cv)) (around (now cv) (now co) (edge .0)) × CornersThere (length (now co)) (around (now cv) (now co) (edge .0))
+        × VerticesThere (length (now vc)) (around (now cv) (now co) (edge .0)) ⌝ }
     ensures { λ r. ⌜ ((cm vm : List ℕ) (vp : List Float) (i j : ℕ) →
         table (now (cv .exit)) (now (co .exit)) cm (now (vc .exit)) vm vp i j
         ≡ flipEdge (table (now (cv .entry)) (now (co .entry)) cm (now (vc .entry)) vm vp i j) (edge .0)) ⌝ }
 {
-    let p = read_around(cv, co, edge);
+    let p = read_there(cv, co, edge);
     flip_vertices(cv, p);
     flip_opposites(co, p);
     flip_corners(vc, p);

@@ -14,6 +14,8 @@ use Rattle.corner.specs.declared.Corner.{Corner}
 use Rattle.corner.specs.declared.Face.{Face}
 use Rattle.vertex.specs.declared.Point.{Point}
 use Rattle.table.proofs.Lists.{any-default}
+use Rattle.edit.specs.declared.Around.{Around}
+use Rattle.edit.specs.Plans.{around, CornersThere, VerticesThere}
 use Rattle.edit.specs.Flip.{flipEdge}
 use Rattle.edit.specs.SplitFace.{splitFace}
 use Rattle.edit.specs.SplitEdge.{splitEdge}
@@ -22,6 +24,8 @@ use Rattle.table.specs.Table.{Table, opposite, Shaped}
 use Rattle.table.specs.Rules.{WellFormed}
 use Rattle.edge_collapse.specs.EdgeCollapse.{affectsBoundary}
 use Rattle.edge_collapse.proofs.Paper.{inner}
+use Rattle.keeps.specs.Keeps.{AroundUsed}
+use Rattle.keeps.proofs.Used.{around-used}
 use Rattle.command.specs.declared.Edit.{Edit}
 use Rattle.command.specs.declared.Edit.the-variants.{Collapse, Flip, SplitEdge, SplitFace, Unknown}
 use Rattle.command.specs.Answers.{first, when, cornerTarget, faceTarget, noRoom, noOpposite, collapseAnswer, flipAnswer, splitEdgeAnswer, splitFaceAnswer, answer}
@@ -45,10 +49,43 @@ unknown t = record { answered = refl; table = refl }
 
 -- ---- what an answer 0 gives the edit that it lets through
 
+-- used slots are there
+module _ (t : Table) (p : Around) (u : AroundUsed t p) (n : ℕ) where
+  corners-there : t .corners ≤ n → CornersThere n p
+  corners-there h =
+      record {
+        c0 = omega (arith, u .c0);
+        c1 = omega (arith, u .c1);
+        c2 = omega (arith, u .c2);
+        c3 = omega (arith, u .c3);
+        c4 = omega (arith, u .c4);
+        c5 = omega (arith, u .c5);
+      }
+
+  vertices-there : t .vertices ≤ n → VerticesThere n p
+  vertices-there h = record { v0 = omega (arith, u .v0); v1 = omega (arith, u .v1); v2 = omega (arith, u .v2); v3 = omega (arith, u .v3) }
+
 module _ (t : Table) (c : ℕ) where
-  pub flip-ready : flipAnswer t c ≡ 0 → (c < t .corners) × (opposite t c ≢ absent)
+  pub flip-ready : Good t → flipAnswer t c ≡ 0
+      → ((c < absent) × (opposite t c < absent))
+      × (CornersThere (length (t .cornerVertex)) (around (t .cornerVertex) (t .cornerOpposite) c)
+      × CornersThere (length (t .cornerOpposite)) (around (t .cornerVertex) (t .cornerOpposite) c)
+      × VerticesThere (length (t .vertexCorner)) (around (t .cornerVertex) (t .cornerOpposite) c))
   unfolding flipAnswer
-  flip-ready e = (corner-live t c (first-left _ _ e) .0, opposite-there t c (first-left _ _ (first-right _ _ e)))
+  flip-ready G e =
+      let l = corner-live t c (first-left _ _ e) in
+      let n = opposite-there t c (first-left _ _ (first-right _ _ e)) in
+      let u = around-used t (G .shaped) (G .wellFormed) c l n in
+      let Z = G .shaped in
+      let W = G .wellFormed in
+      let over : opposite t c < t .corners = W .mate c l n .over .0 in (
+        (omega (arith, l .0, W .cornersFit, Z .cornerMost), omega (arith, over, W .cornersFit, Z .cornerMost)),
+        (
+          corners-there t _ u _ (omega (arith, W .cornersFit, Z .cornerVertexRoom)),
+          corners-there t _ u _ (omega (arith, W .cornersFit, Z .cornerOppositeRoom)),
+          vertices-there t _ u _ (omega (arith, W .verticesFit, Z .vertexCornerRoom)),
+        ),
+      )
 
   pub collapse-ready : Good t → (p : Point) → collapseAnswer t c p ≡ 0 → (c < t .corners) × (opposite t c ≢ absent)
   unfolding collapseAnswer
