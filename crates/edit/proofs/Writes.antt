@@ -2,6 +2,7 @@
 use Prim.Native.Nat.{ℕ, _+_}
 use mathlib.Core.Path.{_≡_}
 use mathlib.Core.List.{List}
+use native.Mathlib.Omega.{arith}
 use lib.Ieee.{Float}
 use lib.ListN.{set}
 use Rattle.corner.specs.Corner.{absent}
@@ -19,6 +20,14 @@ use Rattle.edit.specs.Collapse.{winged, either, collapseVertices, collap
 
 pub six-made : (l : List ℕ) (n a b c d e f : ℕ) {l1 l2 : List ℕ} → l1 ≡ three l n a b c → l2 ≡ three l1 (n + 3) d e f → l2 ≡ six l n a b c d e f
 six-made l n a b c d e f h1 h2 = rw (h2, h1)
+
+-- the six slots one by one
+pub six-stored : (l : List ℕ) (n a b c d e f : ℕ)
+    → set (set (set (set (set (set l n a) (n + 1) b) (n + 2) c) (n + 3) d) (n + 4) e) (n + 5) f ≡ six l n a b c d e f
+six-stored l n a b c d e f =
+    let x : n + 4 ≡ n + 3 + 1 = omega arith in
+    let y : n + 5 ≡ n + 3 + 2 = omega arith in
+    rw (x, y)
 
 -- ---- flip_edge
 

@@ -98,11 +98,21 @@ fn read_around(cv: &[u32], co: &[u32], c1: Corner) -> Around
 
 // ---- new slots of one part, from n on
 
-// Two new faces.
+// Two new faces: one test for the six slots, which on a table with room are all there.
 fn put_six(l: &mut [u32], n: u32, a: u32, b: u32, c: u32, d: u32, e: u32, f: u32)
     requires { ⌜ n + 6 < absent ⌝ }
     ensures { λ r. ⌜ now (l .exit) ≡ six (now (l .entry)) n a b c d e f ⌝ }
 {
+    let i = n as usize;
+    if i + 5 < l.len() {
+        l[i] = a;
+        l[i + 1] = b;
+        l[i + 2] = c;
+        l[i + 3] = d;
+        l[i + 4] = e;
+        l[i + 5] = f;
+        return;
+    }
     put_three(l, n, a, b, c);
     put_three(l, n + 3, d, e, f);
 }
