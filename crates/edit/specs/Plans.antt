@@ -3,6 +3,7 @@ use Prim.Native.Nat.{ℕ, _<_}
 use mathlib.Core.Bool.{cond}
 use mathlib.Core.List.{List, [], _∷_}
 use lib.Dec.{eqb}
+use lib.ListN.{length}
 use Rattle.corner.specs.Corner.{next}
 use Rattle.corner.specs.declared.Corner.{Corner}
 use Rattle.vertex.specs.declared.Vertex.{Vertex}
@@ -87,6 +88,11 @@ pub record VerticesThere (n : ℕ) (p : Around) : Type 0 where
   pub v1 : p .v1 .0 < n
   pub v2 : p .v2 .0 < n
   pub v3 : p .v3 .0 < n
+
+-- the two faces at the edge of c are slots of both lists
+pub record EdgeThere (cv co : List ℕ) (c : ℕ) : Type 0 where
+  pub vertices : CornersThere (length cv) (around cv co c)
+  pub opposites : CornersThere (length co) (around cv co c)
 
 -- a list without the corner a
 abbrev pub without : ℕ → List ℕ → List ℕ

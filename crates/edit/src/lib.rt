@@ -1,6 +1,7 @@
 // edit.rs: the four edits. Each reads a plan first, and then writes one part after the other; the drawings stand in specs/. None of them
 // tests anything: they are called where the answer of the command is 0.
 ghost use mathlib.Core.Path.{_≡_};
+ghost use mathlib.Core.Logic.{_≢_};
 ghost use mathlib.Core.List.{List};
 ghost use Prim.Native.Nat.{ℕ, _+_, _<_};
 ghost use lib.Ieee.{Float};
@@ -8,7 +9,7 @@ ghost use lib.ListN.{set, length};
 ghost use Rattle.corner.specs.Corner.{absent, firstCorner};
 ghost use Rattle.table.specs.Slots.{vertexAt, oppositeAt, paired, three};
 ghost use Rattle.table.specs.Table.{table};
-ghost use Rattle.edit.specs.Plans.{triangle, around, CornersThere, VerticesThere};
+ghost use Rattle.edit.specs.Plans.{triangle, around, CornersThere, VerticesThere, EdgeThere};
 ghost use Rattle.edit.specs.Flip.{flipVertices, flipOpposites, flipCorners, flipEdge};
 ghost use Rattle.edit.specs.SplitFace.{six, faceVertices, faceOpposites, faceCorners, splitFace};
 ghost use Rattle.edit.specs.SplitEdge.{splitPoints, splitCorners, innerVertices, innerOpposites, splitInnerEdge};
@@ -69,15 +70,54 @@ fn read_triangle(cv: &[u32], co: &[u32], c0: Corner) -> Triangle
     }
 }
 
+// ---- slots that are known to be there
+//
+// On a well-formed table the two faces at an edge are there, and the caller says so: they are read, and by a flip written, without a test. The
+// tests of total reads and writes, and the values that stand in past the end, were two fifths of a flip's instructions.
+
+fn vertex_there(cv: &[u32], c: Corner) -> Vertex
+    requires { ⌜ c .0 < length (now cv) ⌝ }
+    ensures { λ r. ⌜ r .0 ≡ vertexAt (now (cv .entry)) (c .0) ⌝ }
+{
+    let i = c.0 as usize;
+    Vertex(cv[i])
+}
+
+fn opposite_there(co: &[u32], c: Corner) -> Corner
+    requires { ⌜ c .0 < length (now co) ⌝ }
+    ensures { λ r. ⌜ r .0 ≡ oppositeAt (now (co .entry)) (c .0) ⌝ }
+{
+    let i = c.0 as usize;
+    Corner(co[i])
+}
+
+fn put_there(l: &mut [u32], i: u32, v: u32)
+    requires { ⌜ i < length (now l) ⌝ }
+    ensures { λ r. ⌜ now (l .exit) ≡ set (now (l .entry)) i v ⌝ }
+{
+    let k = i as usize;
+    l[k] = v;
+}
+
+// Makes a, whose slot is there, and b, which may be absent, opposite to each other.
+fn pair_there(co: &mut [u32], a: Corner, b: Corner)
+    requires { ⌜ a .0 < length (now co) ⌝ }
+    ensures { λ r. ⌜ now (co .exit) ≡ paired (now (co .entry)) (a .0) (b .0) ⌝ }
+{
+    put_there(co, a.0, b.0);
+    table::set_opposite(co, b, a);
+}
+
 fn read_around(cv: &[u32], co: &[u32], c1: Corner) -> Around
     requires { ⌜ (c1 .0 < absent) × (oppositeAt (now co) (c1 .0) < absent) ⌝ }
+    requires { ⌜ EdgeThere (now cv) (now co) (c1 .0) ⌝ }
     ensures { λ r. ⌜ r ≡ around (now (cv .entry)) (now (co .entry)) (c1 .0) ⌝ }
 {
     let c2 = c1.next();
-    let c0 = c2.next();
-    let c4 = table::opposite_of(co, c1);
+    let c0 = c1.previous();
+    let c4 = opposite_there(co, c1);
     let c5 = c4.next();
-    let c3 = c5.next();
+    let c3 = c4.previous();
     Around {
         c0: c0,
         c1: c1,
@@ -85,14 +125,14 @@ fn read_around(cv: &[u32], co: &[u32], c1: Corner) -> Around
         c3: c3,
         c4: c4,
         c5: c5,
-        v0: table::vertex_of(cv, c0),
-        v1: table::vertex_of(cv, c1),
-        v2: table::vertex_of(cv, c2),
-        v3: table::vertex_of(cv, c4),
-        o0: table::opposite_of(co, c0),
-        o2: table::opposite_of(co, c2),
-        o3: table::opposite_of(co, c3),
-        o5: table::opposite_of(co, c5),
+        v0: vertex_there(cv, c0),
+        v1: vertex_there(cv, c1),
+        v2: vertex_there(cv, c2),
+        v3: vertex_there(cv, c4),
+        o0: opposite_there(co, c0),
+        o2: opposite_there(co, c2),
+        o3: opposite_there(co, c3),
+        o5: opposite_there(co, c5),
     }
 }
 
@@ -190,6 +230,7 @@ pub fn collapse_edge(
     at: Point,
 )
     requires { ⌜ (edge .0 < absent) × (oppositeAt (now co) (edge .0) < absent) ⌝ }
+    requires { ⌜ EdgeThere (now cv) (now co) (edge .0) ⌝ }
     ensures { λ r. ⌜ table (now (cv .exit)) (now (co .exit)) (now (cm .exit)) (now (vc .exit)) (now (vm .exit)) (now (vp .exit))
         (counts .vertices) (counts .corners)
         ≡ collapseEdge (table (now (cv .entry)) (now (co .entry)) (now (cm .entry)) (now (vc .entry)) (now (vm .entry)) (now (vp .entry))
@@ -205,70 +246,6 @@ pub fn collapse_edge(
 }
 
 // ---- flip_edge
-//
-// On a well-formed table the slots of its plan are all there, and the caller says so: they are read and written without a test. The tests of
-// the total reads and writes, and the values that stand in past the end, were two fifths of a flip's instructions.
-
-fn vertex_there(cv: &[u32], c: Corner) -> Vertex
-    requires { ⌜ c .0 < length (now cv) ⌝ }
-    ensures { λ r. ⌜ r .0 ≡ vertexAt (now (cv .entry)) (c .0) ⌝ }
-{
-    let i = c.0 as usize;
-    Vertex(cv[i])
-}
-
-fn opposite_there(co: &[u32], c: Corner) -> Corner
-    requires { ⌜ c .0 < length (now co) ⌝ }
-    ensures { λ r. ⌜ r .0 ≡ oppositeAt (now (co .entry)) (c .0) ⌝ }
-{
-    let i = c.0 as usize;
-    Corner(co[i])
-}
-
-fn put_there(l: &mut [u32], i: u32, v: u32)
-    requires { ⌜ i < length (now l) ⌝ }
-    ensures { λ r. ⌜ now (l .exit) ≡ set (now (l .entry)) i v ⌝ }
-{
-    let k = i as usize;
-    l[k] = v;
-}
-
-// Makes a, whose slot is there, and b, which may be absent, opposite to each other.
-fn pair_there(co: &mut [u32], a: Corner, b: Corner)
-    requires { ⌜ a .0 < length (now co) ⌝ }
-    ensures { λ r. ⌜ now (co .exit) ≡ paired (now (co .entry)) (a .0) (b .0) ⌝ }
-{
-    put_there(co, a.0, b.0);
-    table::set_opposite(co, b, a);
-}
-
-fn read_there(cv: &[u32], co: &[u32], c1: Corner) -> Around
-    requires { ⌜ (c1 .0 < absent) × (oppositeAt (now co) (c1 .0) < absent) ⌝ }
-    requires { ⌜ CornersThere (length (now cv)) (around (now cv) (now co) (c1 .0)) × CornersThere (length (now co)) (around (now cv) (now co) (c1 .0)) ⌝ }
-    ensures { λ r. ⌜ r ≡ around (now (cv .entry)) (now (co .entry)) (c1 .0) ⌝ }
-{
-    let c2 = c1.next();
-    let c0 = c1.previous();
-    let c4 = opposite_there(co, c1);
-    let c5 = c4.next();
-    let c3 = c4.previous();
-    Around {
-        c0: c0,
-        c1: c1,
-        c2: c2,
-        c3: c3,
-        c4: c4,
-        c5: c5,
-        v0: vertex_there(cv, c0),
-        v1: vertex_there(cv, c1),
-        v2: vertex_there(cv, c2),
-        v3: vertex_there(cv, c4),
-        o0: opposite_there(co, c0),
-        o2: opposite_there(co, c2),
-        o3: opposite_there(co, c3),
-        o5: opposite_there(co, c5),
-    }
-}
 
 fn flip_vertices(cv: &mut [u32], p: Around)
     requires { ⌜ CornersThere (length (now cv)) p ⌝ }
@@ -306,13 +283,12 @@ fn flip_corners(vc: &mut [u32], p: Around)
 
 pub fn flip_edge(cv: &mut [u32], co: &mut [u32], vc: &mut [u32], edge: Corner)
     requires { ⌜ (edge .0 < absent) × (oppositeAt (now co) (edge .0) < absent) ⌝ }
-    requires { ⌜ CornersThere (length (now cv)) (around (now cv) (now co) (edge .0)) × CornersThere (length (now co)) (around (now cv) (now co) (edge .0))
-        × VerticesThere (length (now vc)) (around (now cv) (now co) (edge .0)) ⌝ }
+    requires { ⌜ EdgeThere (now cv) (now co) (edge .0) × VerticesThere (length (now vc)) (around (now cv) (now co) (edge .0)) ⌝ }
     ensures { λ r. ⌜ ((cm vm : List ℕ) (vp : List Float) (i j : ℕ) →
         table (now (cv .exit)) (now (co .exit)) cm (now (vc .exit)) vm vp i j
         ≡ flipEdge (table (now (cv .entry)) (now (co .entry)) cm (now (vc .entry)) vm vp i j) (edge .0)) ⌝ }
 {
-    let p = read_there(cv, co, edge);
+    let p = read_around(cv, co, edge);
     flip_vertices(cv, p);
     flip_opposites(co, p);
     flip_corners(vc, p);
@@ -448,6 +424,7 @@ fn split_inner_edge(
 ) -> Counts
     requires { ⌜ (counts .corners + 6 < absent) × (counts .vertices + 1 < absent) × (edge .0 < absent)
         × (oppositeAt (now co) (edge .0) < absent) ⌝ }
+    requires { ⌜ EdgeThere (now cv) (now co) (edge .0) ⌝ }
     ensures { λ r. ⌜ table (now (cv .exit)) (now (co .exit)) (now (cm .exit)) (now (vc .exit)) (now (vm .exit)) (now (vp .exit))
         (r .vertices) (r .corners)
         ≡ splitInnerEdge (table (now (cv .entry)) (now (co .entry)) (now (cm .entry)) (now (vc .entry)) (now (vm .entry)) (now (vp .entry))
@@ -480,6 +457,7 @@ pub fn split_edge(
     at: Point,
 ) -> Counts
     requires { ⌜ (counts .corners + 6 < absent) × (counts .vertices + 1 < absent) × (edge .0 < absent) ⌝ }
+    requires { ⌜ (oppositeAt (now co) (edge .0) ≢ absent → EdgeThere (now cv) (now co) (edge .0)) ⌝ }
     ensures { λ r. ⌜ table (now (cv .exit)) (now (co .exit)) (now (cm .exit)) (now (vc .exit)) (now (vm .exit)) (now (vp .exit))
         (r .vertices) (r .corners)
         ≡ splitEdge (table (now (cv .entry)) (now (co .entry)) (now (cm .entry)) (now (vc .entry)) (now (vm .entry)) (now (vp .entry))
