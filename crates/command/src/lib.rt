@@ -163,15 +163,13 @@ pub fn collapse_answer(
     if a != 0 {
         return a;
     }
-    if edge_collapse::will_collapse_affect_boundary(cv, co, vc, corners, c) {
+    let j = edge_collapse::judge(cv, co, vc, corners, c);
+    if j.boundary {
         return 11;
     }
     let w = same_wings(cv, co, c);
     if w != 0 {
         return w;
     }
-    when(
-        edge_collapse::is_topologically_unsafe(cv, co, vc, corners, c),
-        13,
-    )
+    when(j.bad, 13)
 }

@@ -1,19 +1,21 @@
 -- How the parts that a function read or wrote make the whole that its contract speaks of. Assumes nothing.
-use Prim.Native.Nat.{ℕ, _+_}
-use mathlib.Core.Path.{_≡_}
+use Prim.Native.Nat.{ℕ, _+_, _<_}
+use mathlib.Core.Path.{_≡_, ap, sym, subst, _∙_}
 use mathlib.Core.Logic.{_≢_}
 use mathlib.Core.List.{List}
+use native.Mathlib.Omega.{arith}
 use borrow.Author.Tests.{eq-eqb, ne-eqb}
 use lib.Ieee.{Float}
 use lib.ListN.{set}
 use Rattle.corner.specs.Corner.{absent, next, previous, firstCorner}
 use Rattle.corner.specs.declared.Corner.{Corner}
+use Rattle.corner.proofs.Turns.{next-next}
 use Rattle.vertex.specs.declared.Point.{Point}
 use Rattle.table.specs.Slots.{vertexAt, oppositeAt, three, withPoint}
 use Rattle.table.specs.Table.{Table, table, opposite}
 use Rattle.edit.specs.declared.Around.{Around}
 use Rattle.edit.specs.declared.Triangle.{Triangle}
-use Rattle.edit.specs.Plans.{corner, vertex, triangle, around}
+use Rattle.edit.specs.Plans.{corner, vertex, triangle, around, CornersThere, VerticesThere}
 use Rattle.edit.specs.Flip.{flipVertices, flipOpposites, flipCorners, flipEdge}
 use Rattle.edit.specs.Collapse.{collapseVertices, collapseOpposites, collapseMarks, collapseCorners, collapseEdge}
 use Rattle.edit.specs.SplitEdge.{splitPoints, splitCorners, innerVertices, innerOpposites, splitInnerEdge}
@@ -57,6 +59,43 @@ pub around-made : (cv co : List ℕ) (c1 : ℕ) {c0 c2 c3 c4 c5 v0 v1 v2 v3 o0 o
     }) (around cv co c1)
 unfolding around
 around-made cv co c1 h2 h0 h4 h5 h3 w0 w1 w2 w3 q0 q2 q3 q5 = cc
+
+-- the third corner of a face, as the one before the first
+pub turned : (a : ℕ) {b c : ℕ} → b ≡ next a → c ≡ previous a → c ≡ next b
+turned a h k = k ∙ sym (next-next a) ∙ ap next (sym h)
+
+-- the corners that are read are there
+module _ (cv co : List ℕ) (c1 n : ℕ) (T : CornersThere n (around cv co c1)) where
+  pub there-1 : c1 < n
+  unfolding around
+  there-1 = T .c1
+
+  pub there-2 : {c2 : ℕ} → c2 ≡ next c1 → c2 < n
+  unfolding around
+  there-2 e = let t : next c1 < n = T .c2 in omega (arith, t, e)
+
+  pub there-0 : {c0 : ℕ} → c0 ≡ previous c1 → c0 < n
+  unfolding around
+  there-0 e = let t : next (next c1) < n = T .c0 in omega (arith, t, next-next c1, e)
+
+  module _ {c4 : ℕ} (h : c4 ≡ oppositeAt co c1) where
+    pub there-4 : c4 < n
+    unfolding around
+    there-4 = let t : oppositeAt co c1 < n = T .c4 in omega (arith, t, h)
+
+    pub there-5 : {c5 : ℕ} → c5 ≡ next c4 → c5 < n
+    unfolding around
+    there-5 e = let t : next (oppositeAt co c1) < n = T .c5 in omega (arith, t, e ∙ ap next h)
+
+    pub there-3 : {c3 : ℕ} → c3 ≡ previous c4 → c3 < n
+    unfolding around
+    there-3 e = let t : next (next (oppositeAt co c1)) < n = T .c3 in omega (arith, t, next-next (oppositeAt co c1), e ∙ ap previous h)
+
+pub corners-there : (n : ℕ) (p q : Around) → p ≡ q → CornersThere n q → CornersThere n p
+corners-there n p q e t = subst (λ (x : Around). CornersThere n x) (sym e) t
+
+pub vertices-there : (n : ℕ) (p q : Around) → p ≡ q → VerticesThere n q → VerticesThere n p
+vertices-there n p q e t = subst (λ (x : Around). VerticesThere n x) (sym e) t
 
 pub flip-made : (cv co vc : List ℕ) (e : ℕ) {cv′ co′ vc′ : List ℕ} {p : Around} → p ≡ around cv co e
     → cv′ ≡ flipVertices p cv → co′ ≡ flipOpposites p co → vc′ ≡ flipCorners p vc

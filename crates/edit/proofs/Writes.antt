@@ -2,6 +2,7 @@
 use Prim.Native.Nat.{ℕ, _+_}
 use mathlib.Core.Path.{_≡_}
 use mathlib.Core.List.{List}
+use native.Mathlib.Omega.{arith}
 use lib.Ieee.{Float}
 use lib.ListN.{set}
 use Rattle.corner.specs.Corner.{absent}
@@ -20,6 +21,14 @@ use Rattle.edit.specs.Collapse.{winged, either, collapseVertices, collap
 pub six-made : (l : List ℕ) (n a b c d e f : ℕ) {l1 l2 : List ℕ} → l1 ≡ three l n a b c → l2 ≡ three l1 (n + 3) d e f → l2 ≡ six l n a b c d e f
 six-made l n a b c d e f h1 h2 = rw (h2, h1)
 
+-- the six slots one by one
+pub six-stored : (l : List ℕ) (n a b c d e f : ℕ)
+    → set (set (set (set (set (set l n a) (n + 1) b) (n + 2) c) (n + 3) d) (n + 4) e) (n + 5) f ≡ six l n a b c d e f
+six-stored l n a b c d e f =
+    let x : n + 4 ≡ n + 3 + 1 = omega arith in
+    let y : n + 5 ≡ n + 3 + 2 = omega arith in
+    rw (x, y)
+
 -- ---- flip_edge
 
 pub flip-vertices-made : (p : Around) (cv : List ℕ) {l1 l2 l3 l4 l5 l6 : List ℕ} → l1 ≡ set cv (p .c0 .0) (p .v1 .0)
@@ -28,11 +37,14 @@ pub flip-vertices-made : (p : Around) (cv : List ℕ) {l1 l2 l3 l4 l5 l6 : List 
 unfolding flipVertices
 flip-vertices-made p cv h1 h2 h3 h4 h5 h6 = rw (h6, h5, h4, h3, h2, h1)
 
-pub flip-opposites-made : (p : Around) (co : List ℕ) {l1 l2 l3 l4 l5 : List ℕ} → l1 ≡ paired co (p .c0 .0) (p .o5 .0)
-    → l2 ≡ paired l1 (p .c1 .0) (p .c4 .0) → l3 ≡ paired l2 (p .c2 .0) (p .o0 .0) → l4 ≡ paired l3 (p .c3 .0) (p .o2 .0)
-    → l5 ≡ paired l4 (p .c5 .0) (p .o3 .0) → l5 ≡ flipOpposites p co
+pub pair-made : (co : List ℕ) (a b : ℕ) {l1 l2 : List ℕ} → l1 ≡ set co a b → l2 ≡ set l1 b a → l2 ≡ paired co a b
+pair-made co a b h1 h2 = rw (h2, h1)
+
+pub flip-opposites-made : (p : Around) (co : List ℕ) {l1 l2 l3 l4 l5 l6 : List ℕ} → l1 ≡ paired co (p .c0 .0) (p .o5 .0)
+    → l2 ≡ set l1 (p .c1 .0) (p .c4 .0) → l3 ≡ set l2 (p .c4 .0) (p .c1 .0) → l4 ≡ paired l3 (p .c2 .0) (p .o0 .0)
+    → l5 ≡ paired l4 (p .c3 .0) (p .o2 .0) → l6 ≡ paired l5 (p .c5 .0) (p .o3 .0) → l6 ≡ flipOpposites p co
 unfolding flipOpposites
-flip-opposites-made p co h1 h2 h3 h4 h5 = rw (h5, h4, h3, h2, h1)
+flip-opposites-made p co h1 h2 h3 h4 h5 h6 = rw (h6, h5, h4, h3, h2, h1)
 
 pub flip-corners-made : (p : Around) (vc : List ℕ) {l1 l2 l3 l4 : List ℕ} → l1 ≡ set vc (p .v0 .0) (p .c4 .0)
     → l2 ≡ set l1 (p .v1 .0) (p .c0 .0) → l3 ≡ set l2 (p .v2 .0) (p .c1 .0) → l4 ≡ set l3 (p .v3 .0) (p .c2 .0) → l4 ≡ flipCorners p vc

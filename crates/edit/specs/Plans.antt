@@ -1,8 +1,9 @@
 -- What an edit reads before it writes: the corners c0.., vertices v0.. and outer opposites o0.. of a face, or of the two faces at an edge.
-use Prim.Native.Nat.{ℕ}
+use Prim.Native.Nat.{ℕ, _<_}
 use mathlib.Core.Bool.{cond}
 use mathlib.Core.List.{List, [], _∷_}
 use lib.Dec.{eqb}
+use lib.ListN.{length}
 use Rattle.corner.specs.Corner.{next}
 use Rattle.corner.specs.declared.Corner.{Corner}
 use Rattle.vertex.specs.declared.Vertex.{Vertex}
@@ -72,6 +73,26 @@ around cv co c1 =
       o3 = corner (oppositeAt co c3);
       o5 = corner (oppositeAt co c5);
     }
+
+-- the six corners, and the four vertices, are slots of a list of length n
+pub record CornersThere (n : ℕ) (p : Around) : Type 0 where
+  pub c0 : p .c0 .0 < n
+  pub c1 : p .c1 .0 < n
+  pub c2 : p .c2 .0 < n
+  pub c3 : p .c3 .0 < n
+  pub c4 : p .c4 .0 < n
+  pub c5 : p .c5 .0 < n
+
+pub record VerticesThere (n : ℕ) (p : Around) : Type 0 where
+  pub v0 : p .v0 .0 < n
+  pub v1 : p .v1 .0 < n
+  pub v2 : p .v2 .0 < n
+  pub v3 : p .v3 .0 < n
+
+-- the two faces at the edge of c are slots of both lists
+pub record EdgeThere (cv co : List ℕ) (c : ℕ) : Type 0 where
+  pub vertices : CornersThere (length cv) (around cv co c)
+  pub opposites : CornersThere (length co) (around cv co c)
 
 -- a list without the corner a
 abbrev pub without : ℕ → List ℕ → List ℕ

@@ -1,13 +1,15 @@
 // edit.rs: the four edits. Each reads a plan first, and then writes one part after the other; the drawings stand in specs/. None of them
 // tests anything: they are called where the answer of the command is 0.
 ghost use mathlib.Core.Path.{_≡_};
+ghost use mathlib.Core.Logic.{_≢_};
 ghost use mathlib.Core.List.{List};
 ghost use Prim.Native.Nat.{ℕ, _+_, _<_};
 ghost use lib.Ieee.{Float};
+ghost use lib.ListN.{set, length};
 ghost use Rattle.corner.specs.Corner.{absent, firstCorner};
-ghost use Rattle.table.specs.Slots.{oppositeAt};
+ghost use Rattle.table.specs.Slots.{vertexAt, oppositeAt, paired, three};
 ghost use Rattle.table.specs.Table.{table};
-ghost use Rattle.edit.specs.Plans.{triangle, around};
+ghost use Rattle.edit.specs.Plans.{triangle, around, CornersThere, VerticesThere, EdgeThere};
 ghost use Rattle.edit.specs.Flip.{flipVertices, flipOpposites, flipCorners, flipEdge};
 ghost use Rattle.edit.specs.SplitFace.{six, faceVertices, faceOpposites, faceCorners, splitFace};
 ghost use Rattle.edit.specs.SplitEdge.{splitPoints, splitCorners, innerVertices, innerOpposites, splitInnerEdge};
@@ -68,15 +70,54 @@ fn read_triangle(cv: &[u32], co: &[u32], c0: Corner) -> Triangle
     }
 }
 
+// ---- slots that are known to be there
+//
+// On a well-formed table the two faces at an edge are there, and the caller says so: they are read, and by a flip written, without a test. The
+// tests of total reads and writes, and the values that stand in past the end, were two fifths of a flip's instructions.
+
+fn vertex_there(cv: &[u32], c: Corner) -> Vertex
+    requires { ⌜ c .0 < length (now cv) ⌝ }
+    ensures { λ r. ⌜ r .0 ≡ vertexAt (now (cv .entry)) (c .0) ⌝ }
+{
+    let i = c.0 as usize;
+    Vertex(cv[i])
+}
+
+fn opposite_there(co: &[u32], c: Corner) -> Corner
+    requires { ⌜ c .0 < length (now co) ⌝ }
+    ensures { λ r. ⌜ r .0 ≡ oppositeAt (now (co .entry)) (c .0) ⌝ }
+{
+    let i = c.0 as usize;
+    Corner(co[i])
+}
+
+fn put_there(l: &mut [u32], i: u32, v: u32)
+    requires { ⌜ i < length (now l) ⌝ }
+    ensures { λ r. ⌜ now (l .exit) ≡ set (now (l .entry)) i v ⌝ }
+{
+    let k = i as usize;
+    l[k] = v;
+}
+
+// Makes a, whose slot is there, and b, which may be absent, opposite to each other.
+fn pair_there(co: &mut [u32], a: Corner, b: Corner)
+    requires { ⌜ a .0 < length (now co) ⌝ }
+    ensures { λ r. ⌜ now (co .exit) ≡ paired (now (co .entry)) (a .0) (b .0) ⌝ }
+{
+    put_there(co, a.0, b.0);
+    table::set_opposite(co, b, a);
+}
+
 fn read_around(cv: &[u32], co: &[u32], c1: Corner) -> Around
     requires { ⌜ (c1 .0 < absent) × (oppositeAt (now co) (c1 .0) < absent) ⌝ }
+    requires { ⌜ EdgeThere (now cv) (now co) (c1 .0) ⌝ }
     ensures { λ r. ⌜ r ≡ around (now (cv .entry)) (now (co .entry)) (c1 .0) ⌝ }
 {
     let c2 = c1.next();
-    let c0 = c2.next();
-    let c4 = table::opposite_of(co, c1);
+    let c0 = c1.previous();
+    let c4 = opposite_there(co, c1);
     let c5 = c4.next();
-    let c3 = c5.next();
+    let c3 = c4.previous();
     Around {
         c0: c0,
         c1: c1,
@@ -84,24 +125,34 @@ fn read_around(cv: &[u32], co: &[u32], c1: Corner) -> Around
         c3: c3,
         c4: c4,
         c5: c5,
-        v0: table::vertex_of(cv, c0),
-        v1: table::vertex_of(cv, c1),
-        v2: table::vertex_of(cv, c2),
-        v3: table::vertex_of(cv, c4),
-        o0: table::opposite_of(co, c0),
-        o2: table::opposite_of(co, c2),
-        o3: table::opposite_of(co, c3),
-        o5: table::opposite_of(co, c5),
+        v0: vertex_there(cv, c0),
+        v1: vertex_there(cv, c1),
+        v2: vertex_there(cv, c2),
+        v3: vertex_there(cv, c4),
+        o0: opposite_there(co, c0),
+        o2: opposite_there(co, c2),
+        o3: opposite_there(co, c3),
+        o5: opposite_there(co, c5),
     }
 }
 
 // ---- new slots of one part, from n on
 
-// Two new faces.
+// Two new faces: one test for the six slots, which on a table with room are all there.
 fn put_six(l: &mut [u32], n: u32, a: u32, b: u32, c: u32, d: u32, e: u32, f: u32)
     requires { ⌜ n + 6 < absent ⌝ }
     ensures { λ r. ⌜ now (l .exit) ≡ six (now (l .entry)) n a b c d e f ⌝ }
 {
+    let i = n as usize;
+    if i + 5 < l.len() {
+        l[i] = a;
+        l[i + 1] = b;
+        l[i + 2] = c;
+        l[i + 3] = d;
+        l[i + 4] = e;
+        l[i + 5] = f;
+        return;
+    }
     put_three(l, n, a, b, c);
     put_three(l, n + 3, d, e, f);
 }
@@ -179,6 +230,7 @@ pub fn collapse_edge(
     at: Point,
 )
     requires { ⌜ (edge .0 < absent) × (oppositeAt (now co) (edge .0) < absent) ⌝ }
+    requires { ⌜ EdgeThere (now cv) (now co) (edge .0) ⌝ }
     ensures { λ r. ⌜ table (now (cv .exit)) (now (co .exit)) (now (cm .exit)) (now (vc .exit)) (now (vm .exit)) (now (vp .exit))
         (counts .vertices) (counts .corners)
         ≡ collapseEdge (table (now (cv .entry)) (now (co .entry)) (now (cm .entry)) (now (vc .entry)) (now (vm .entry)) (now (vp .entry))
@@ -196,37 +248,42 @@ pub fn collapse_edge(
 // ---- flip_edge
 
 fn flip_vertices(cv: &mut [u32], p: Around)
+    requires { ⌜ CornersThere (length (now cv)) p ⌝ }
     ensures { λ r. ⌜ now (cv .exit) ≡ flipVertices p (now (cv .entry)) ⌝ }
 {
-    table::set_vertex(cv, p.c0, p.v1);
-    table::set_vertex(cv, p.c1, p.v2);
-    table::set_vertex(cv, p.c2, p.v3);
-    table::set_vertex(cv, p.c3, p.v3);
-    table::set_vertex(cv, p.c4, p.v0);
-    table::set_vertex(cv, p.c5, p.v1);
+    put_there(cv, p.c0.0, p.v1.0);
+    put_there(cv, p.c1.0, p.v2.0);
+    put_there(cv, p.c2.0, p.v3.0);
+    put_there(cv, p.c3.0, p.v3.0);
+    put_there(cv, p.c4.0, p.v0.0);
+    put_there(cv, p.c5.0, p.v1.0);
 }
 
 fn flip_opposites(co: &mut [u32], p: Around)
+    requires { ⌜ CornersThere (length (now co)) p ⌝ }
     ensures { λ r. ⌜ now (co .exit) ≡ flipOpposites p (now (co .entry)) ⌝ }
 {
-    table::make_corners_opposite(co, p.c0, p.o5);
-    table::make_corners_opposite(co, p.c1, p.c4);
-    table::make_corners_opposite(co, p.c2, p.o0);
-    table::make_corners_opposite(co, p.c3, p.o2);
-    table::make_corners_opposite(co, p.c5, p.o3);
+    pair_there(co, p.c0, p.o5);
+    put_there(co, p.c1.0, p.c4.0);
+    put_there(co, p.c4.0, p.c1.0);
+    pair_there(co, p.c2, p.o0);
+    pair_there(co, p.c3, p.o2);
+    pair_there(co, p.c5, p.o3);
 }
 
 fn flip_corners(vc: &mut [u32], p: Around)
+    requires { ⌜ VerticesThere (length (now vc)) p ⌝ }
     ensures { λ r. ⌜ now (vc .exit) ≡ flipCorners p (now (vc .entry)) ⌝ }
 {
-    table::set_corner(vc, p.v0, p.c4);
-    table::set_corner(vc, p.v1, p.c0);
-    table::set_corner(vc, p.v2, p.c1);
-    table::set_corner(vc, p.v3, p.c2);
+    put_there(vc, p.v0.0, p.c4.0);
+    put_there(vc, p.v1.0, p.c0.0);
+    put_there(vc, p.v2.0, p.c1.0);
+    put_there(vc, p.v3.0, p.c2.0);
 }
 
 pub fn flip_edge(cv: &mut [u32], co: &mut [u32], vc: &mut [u32], edge: Corner)
     requires { ⌜ (edge .0 < absent) × (oppositeAt (now co) (edge .0) < absent) ⌝ }
+    requires { ⌜ EdgeThere (now cv) (now co) (edge .0) × VerticesThere (length (now vc)) (around (now cv) (now co) (edge .0)) ⌝ }
     ensures { λ r. ⌜ ((cm vm : List ℕ) (vp : List Float) (i j : ℕ) →
         table (now (cv .exit)) (now (co .exit)) cm (now (vc .exit)) vm vp i j
         ≡ flipEdge (table (now (cv .entry)) (now (co .entry)) cm (now (vc .entry)) vm vp i j) (edge .0)) ⌝ }
@@ -367,6 +424,7 @@ fn split_inner_edge(
 ) -> Counts
     requires { ⌜ (counts .corners + 6 < absent) × (counts .vertices + 1 < absent) × (edge .0 < absent)
         × (oppositeAt (now co) (edge .0) < absent) ⌝ }
+    requires { ⌜ EdgeThere (now cv) (now co) (edge .0) ⌝ }
     ensures { λ r. ⌜ table (now (cv .exit)) (now (co .exit)) (now (cm .exit)) (now (vc .exit)) (now (vm .exit)) (now (vp .exit))
         (r .vertices) (r .corners)
         ≡ splitInnerEdge (table (now (cv .entry)) (now (co .entry)) (now (cm .entry)) (now (vc .entry)) (now (vm .entry)) (now (vp .entry))
@@ -399,6 +457,7 @@ pub fn split_edge(
     at: Point,
 ) -> Counts
     requires { ⌜ (counts .corners + 6 < absent) × (counts .vertices + 1 < absent) × (edge .0 < absent) ⌝ }
+    requires { ⌜ (oppositeAt (now co) (edge .0) ≢ absent → EdgeThere (now cv) (now co) (edge .0)) ⌝ }
     ensures { λ r. ⌜ table (now (cv .exit)) (now (co .exit)) (now (cm .exit)) (now (vc .exit)) (now (vm .exit)) (now (vp .exit))
         (r .vertices) (r .corners)
         ≡ splitEdge (table (now (cv .entry)) (now (co .entry)) (now (cm .entry)) (now (vc .entry)) (now (vm .entry)) (now (vp .entry))

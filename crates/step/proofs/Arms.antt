@@ -1,9 +1,7 @@
 -- A command by its answer: refused, the table is as it was; done, it is the effect. Assumes nothing.
-use Prim.Native.Nat.{ℕ, _+_, _<_}
-use mathlib.Core.Path.{_≡_, refl, sym, subst, _∙_}
-use mathlib.Core.List.{List}
-use native.Mathlib.Decide.{decLt}
-use lib.ListN.{length, getD, List·getD-eq-default}
+use Prim.Native.Nat.{ℕ, _+_, _≤_, _<_}
+use mathlib.Core.Path.{_≡_, refl, sym, ap, subst, _∙_}
+use lib.ListN.{length}
 use mathlib.Core.Logic.{_≢_}
 use native.Mathlib.Omega.{arith}
 use borrow.Author.Tests.{eq-eqb, ne-eqb}
@@ -13,14 +11,17 @@ use Rattle.corner.specs.Corner.{absent, firstCorner}
 use Rattle.corner.specs.declared.Corner.{Corner}
 use Rattle.corner.specs.declared.Face.{Face}
 use Rattle.vertex.specs.declared.Point.{Point}
-use Rattle.table.proofs.Lists.{any-default}
+use Rattle.edit.specs.declared.Around.{Around}
+use Rattle.edit.specs.Plans.{around, CornersThere, VerticesThere, EdgeThere}
 use Rattle.edit.specs.Flip.{flipEdge}
 use Rattle.edit.specs.SplitFace.{splitFace}
 use Rattle.edit.specs.SplitEdge.{splitEdge}
 use Rattle.edit.specs.Collapse.{collapseEdge}
-use Rattle.table.specs.Table.{Table, opposite}
+use Rattle.table.specs.Table.{Table, opposite, Live}
 use Rattle.edge_collapse.specs.EdgeCollapse.{affectsBoundary}
 use Rattle.edge_collapse.proofs.Paper.{inner}
+use Rattle.keeps.specs.Keeps.{AroundUsed}
+use Rattle.keeps.proofs.Used.{around-used}
 use Rattle.command.specs.declared.Edit.{Edit}
 use Rattle.command.specs.declared.Edit.the-variants.{Collapse, Flip, SplitEdge, SplitFace, Unknown}
 use Rattle.command.specs.Answers.{collapseAnswer, flipAnswer, splitEdgeAnswer, splitFaceAnswer, answer}
@@ -44,18 +45,60 @@ unknown t = record { answered = refl; table = refl }
 
 -- ---- what an answer 0 gives the edit that it lets through
 
-module _ (t : Table) (c : ℕ) where
-  pub flip-ready : flipAnswer t c ≡ 0 → (c < t .corners) × (opposite t c ≢ absent)
-  unfolding flipAnswer
-  flip-ready e = (corner-live t c (first-left _ _ e) .0, opposite-there t c (first-left _ _ (first-right _ _ e)))
+-- used slots are there
+module _ (t : Table) (p : Around) (u : AroundUsed t p) (n : ℕ) where
+  corners-there : t .corners ≤ n → CornersThere n p
+  corners-there h =
+      record {
+        c0 = omega (arith, u .c0);
+        c1 = omega (arith, u .c1);
+        c2 = omega (arith, u .c2);
+        c3 = omega (arith, u .c3);
+        c4 = omega (arith, u .c4);
+        c5 = omega (arith, u .c5);
+      }
 
-  pub collapse-ready : Good t → (p : Point) → collapseAnswer t c p ≡ 0 → (c < t .corners) × (opposite t c ≢ absent)
+  vertices-there : t .vertices ≤ n → VerticesThere n p
+  vertices-there h = record { v0 = omega (arith, u .v0); v1 = omega (arith, u .v1); v2 = omega (arith, u .v2); v3 = omega (arith, u .v3) }
+
+module _ (t : Table) (c : ℕ) where
+  -- the two faces at an inner edge
+  near-edge : Good t → Live t c → opposite t c ≢ absent
+      → ((c < absent) × (opposite t c < absent)) × EdgeThere (t .cornerVertex) (t .cornerOpposite) c
+  near-edge G l n =
+      let u = around-used t (G .shaped) (G .wellFormed) c l n in
+      let Z = G .shaped in
+      let W = G .wellFormed in
+      let over : opposite t c < t .corners = W .mate c l n .over .0 in (
+        (omega (arith, l .0, W .cornersFit, Z .cornerMost), omega (arith, over, W .cornersFit, Z .cornerMost)),
+        record {
+          vertices = corners-there t _ u _ (omega (arith, W .cornersFit, Z .cornerVertexRoom));
+          opposites = corners-there t _ u _ (omega (arith, W .cornersFit, Z .cornerOppositeRoom));
+        },
+      )
+
+  pub flip-ready : Good t → flipAnswer t c ≡ 0
+      → ((c < absent) × (opposite t c < absent))
+      × (EdgeThere (t .cornerVertex) (t .cornerOpposite) c × VerticesThere (length (t .vertexCorner)) (around (t .cornerVertex) (t .cornerOpposite) c))
+  unfolding flipAnswer
+  flip-ready G e =
+      let l = corner-live t c (first-left _ _ e) in
+      let n = opposite-there t c (first-left _ _ (first-right _ _ e)) in
+      let r = near-edge G l n in
+      let u = around-used t (G .shaped) (G .wellFormed) c l n in
+      (r .0, (r .1, vertices-there t _ u _ (omega (arith, G .wellFormed .verticesFit, G .shaped .vertexCornerRoom))))
+
+  pub collapse-ready : Good t → (p : Point) → collapseAnswer t c p ≡ 0
+      → ((c < absent) × (opposite t c < absent)) × EdgeThere (t .cornerVertex) (t .cornerOpposite) c
   unfolding collapseAnswer
   collapse-ready G p e =
       let l = corner-live t c (first-left _ _ e) in
-      (l .0, inner t (G .shaped) (G .wellFormed) c l (when-false (affectsBoundary t c) 11 (omega arith) (first-left _ _ (first-right _ _ (first-right _ _ e)))))
+      near-edge G l
+      (inner t (G .shaped) (G .wellFormed) c l (when-false (affectsBoundary t c) 11 (omega arith) (first-left _ _ (first-right _ _ (first-right _ _ e)))))
 
-  pub edge-ready : Good t → (p : Point) → splitEdgeAnswer t c p ≡ 0 → (t .corners + 6 < absent) × (t .vertices + 1 < absent) × (c < absent)
+  pub edge-ready : Good t → (p : Point) → splitEdgeAnswer t c p ≡ 0
+      → ((t .corners + 6 < absent) × (t .vertices + 1 < absent) × (c < absent))
+      × (opposite t c ≢ absent → EdgeThere (t .cornerVertex) (t .cornerOpposite) c)
   unfolding splitEdgeAnswer
   edge-ready G p e =
       let l = corner-live t c (first-left _ _ e) in
@@ -63,7 +106,7 @@ module _ (t : Table) (c : ℕ) where
       let a = G .shaped .cornerMost in
       let b = G .shaped .vertexMost in
       let w = G .wellFormed .cornersFit in
-      (omega arith, omega (arith, r .0), omega (arith, l .0))
+      ((omega arith, omega (arith, r .0), omega (arith, l .0)), λ n. near-edge G l n .1)
 
   pub face-ready : Good t → (p : Point) → splitFaceAnswer t c p ≡ 0 → (t .corners + 6 < absent) × (t .vertices + 1 < absent) × (firstCorner c < absent)
   unfolding splitFaceAnswer
@@ -74,14 +117,6 @@ module _ (t : Table) (c : ℕ) where
       let b = G .shaped .vertexMost in
       let w = G .wellFormed .cornersFit in
       (omega arith, omega (arith, r .0), omega (arith, l .0))
-
--- an element that fits u32 and isn't absent is below it
-pub present : (l : List ℕ) (i : ℕ) → getD l i 0 < 4294967296 → getD l i absent ≢ absent → getD l i absent < absent
-present l i h n = go (decLt i (length l))
-  where
-    go : Dec (i < length l) → getD l i absent < absent
-    go (yes q) = let e : getD l i absent ≡ getD l i 0 = any-default l i absent 0 q in omega arith
-    go (no q) = absurd (n (List·getD-eq-default l absent (omega arith)))
 
 -- ---- the four kinds
 

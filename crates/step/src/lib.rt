@@ -1,11 +1,10 @@
 // One command on a table: answered first, and done where the answer is 0.
 ghost use mathlib.Core.List.{List};
-ghost use Prim.Native.Nat.{ℕ, _<_};
+ghost use Prim.Native.Nat.{ℕ};
 ghost use lib.Ieee.{Float};
-ghost use Rattle.corner.specs.Corner.{absent};
 ghost use Rattle.table.specs.Table.{table};
 ghost use Rattle.command.specs.declared.Edit.the-variants.{Collapse, Flip, SplitEdge, SplitFace};
-ghost use Rattle.step.specs.Stepped.{Good, Stepped};
+ghost use Rattle.step.specs.Stepped.{Good, GoodFour, Stepped};
 use command::Edit;
 use corner::Corner;
 use corner::Face;
@@ -26,7 +25,7 @@ fn flip(
     counts: Counts,
     c: Corner,
 ) -> u32
-    requires { ⌜ counts .corners < absent ⌝ }
+    requires { ⌜ GoodFour (now cv) (now co) (now cm) (now vc) (counts .vertices) (counts .corners) ⌝ }
     ensures { λ r. ⌜ ((vm : List ℕ) (vp : List Float) → Stepped
         (table (now (cv .entry)) (now (co .entry)) (now (cm .entry)) (now (vc .entry)) vm vp (counts .vertices) (counts .corners)) (Flip c) r
         (table (now (cv .exit)) (now (co .exit)) (now (cm .entry)) (now (vc .exit)) vm vp (counts .vertices) (counts .corners))) ⌝ }

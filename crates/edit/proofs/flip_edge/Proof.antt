@@ -1,4 +1,4 @@
-use Rattle.edit.proofs.Made.{flip-made}
+use Rattle.edit.proofs.Made.{flip-made, corners-there, vertices-there}
 use denote.Ref.{now}
 use borrow.Author.Needs.{needs}
 use Rattle.edit.proofs.flip_edge.Statement.{statement}
@@ -8,13 +8,13 @@ read-around-requires : tie.Need-read-around-requires
 read-around-requires c κs = search needs
 
 flip-vertices-requires : tie.Need-flip-vertices-requires
-flip-vertices-requires c κs = search needs
+flip-vertices-requires c κs = corners-there _ _ _ (c .before .read-around .ensures) (c .before .before .before .before .before .before .before .pre .1 .0 .vertices)
 
 flip-opposites-requires : tie.Need-flip-opposites-requires
-flip-opposites-requires c κs = search needs
+flip-opposites-requires c κs = corners-there _ _ _ (c .before .before .before .before .before .read-around .ensures) (c .before .before .before .before .before .before .before .before .before .before .before .pre .1 .0 .opposites)
 
 flip-corners-requires : tie.Need-flip-corners-requires
-flip-corners-requires c κs = search needs
+flip-corners-requires c κs = vertices-there _ _ _ (c .before .before .before .before .before .before .before .before .before .read-around .ensures) (c .before .before .before .before .before .before .before .before .before .before .before .before .before .before .before .pre .1 .1)
 
 same-length : tie.Need-same-length
 same-length c = search needs

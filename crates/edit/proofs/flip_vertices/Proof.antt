@@ -4,23 +4,23 @@ use borrow.Author.Needs.{needs}
 use Rattle.edit.proofs.flip_vertices.Statement.{statement}
 use Rattle.edit.proofs.flip_vertices.Tie as tie
 
-set-vertex-requires : tie.Need-set-vertex-requires
-set-vertex-requires c κs = search needs
+put-there-requires : tie.Need-put-there-requires
+put-there-requires c κs = search needs
 
-set-vertex-requires-2 : tie.Need-set-vertex-requires-2
-set-vertex-requires-2 c κs = search needs
+put-there-requires-2 : tie.Need-put-there-requires-2
+put-there-requires-2 c κs = search needs
 
-set-vertex-requires-3 : tie.Need-set-vertex-requires-3
-set-vertex-requires-3 c κs = search needs
+put-there-requires-3 : tie.Need-put-there-requires-3
+put-there-requires-3 c κs = search needs
 
-set-vertex-requires-4 : tie.Need-set-vertex-requires-4
-set-vertex-requires-4 c κs = search needs
+put-there-requires-4 : tie.Need-put-there-requires-4
+put-there-requires-4 c κs = search needs
 
-set-vertex-requires-5 : tie.Need-set-vertex-requires-5
-set-vertex-requires-5 c κs = search needs
+put-there-requires-5 : tie.Need-put-there-requires-5
+put-there-requires-5 c κs = search needs
 
-set-vertex-requires-6 : tie.Need-set-vertex-requires-6
-set-vertex-requires-6 c κs = search needs
+put-there-requires-6 : tie.Need-put-there-requires-6
+put-there-requires-6 c κs = search needs
 
 same-length : tie.Need-same-length
 same-length c = search needs
@@ -28,22 +28,22 @@ same-length c = search needs
 returns : tie.Need-returns
 returns c = let a = c .before .before .before .before .before .before .before .before .before .before .before .before .before .before .before .before .before .before .before .before .before .before .before .before .before .args in
     flip-vertices-made (a .p) (now (a .cv))
-    (c .before .before .before .before .before .before .before .before .before .before .before .before .before .before .before .before .before .before .before .before .before .before .set-vertex .ensures)
-    (c .before .before .before .before .before .before .before .before .before .before .before .before .before .before .before .before .before .before .set-vertex2 .ensures)
-    (c .before .before .before .before .before .before .before .before .before .before .before .before .before .before .set-vertex3 .ensures)
-    (c .before .before .before .before .before .before .before .before .before .before .set-vertex4 .ensures)
-    (c .before .before .before .before .before .before .set-vertex5 .ensures)
-    (c .before .before .set-vertex6 .ensures)
+    (c .before .before .before .before .before .before .before .before .before .before .before .before .before .before .before .before .before .before .before .before .before .before .put-there .ensures)
+    (c .before .before .before .before .before .before .before .before .before .before .before .before .before .before .before .before .before .before .put-there2 .ensures)
+    (c .before .before .before .before .before .before .before .before .before .before .before .before .before .before .put-there3 .ensures)
+    (c .before .before .before .before .before .before .before .before .before .before .put-there4 .ensures)
+    (c .before .before .before .before .before .before .put-there5 .ensures)
+    (c .before .before .put-there6 .ensures)
 
 pub flip-vertices-spec : {M : Type 1} → statement M
 flip-vertices-spec =
     tie.close
     (tie.spec
-    set-vertex-requires
-    set-vertex-requires-2
-    set-vertex-requires-3
-    set-vertex-requires-4
-    set-vertex-requires-5
-    set-vertex-requires-6
+    put-there-requires
+    put-there-requires-2
+    put-there-requires-3
+    put-there-requires-4
+    put-there-requires-5
+    put-there-requires-6
     same-length
     returns)

@@ -1,3 +1,4 @@
+use mathlib.Core.Path.{_∙_}
 use Rattle.edit.proofs.Made.{split-boundary, split-inner}
 use Rattle.table.specs.Table.{table}
 use denote.Ref.{now}
@@ -12,7 +13,9 @@ split-boundary-edge-requires : tie.Need-split-boundary-edge-requires
 split-boundary-edge-requires c κs = search needs
 
 split-inner-edge-requires : tie.Need-split-inner-edge-requires
-split-inner-edge-requires c κs = search needs
+split-inner-edge-requires c κs =
+    let p = c .before .before .before .before .before .before .before .before .before .before .before .before .before .before .before .before .pre in
+    ((p .0 .0, p .0 .1, p .0 .2, search needs), p .1 (λ z. c .before .before .before .before .before .before .if1 .left (c .before .before .before .before .before .before .before .before .opposite-of .ensures ∙ z)))
 
 same-length : tie.Need-same-length
 same-length c = search needs

@@ -1,7 +1,6 @@
-use Rattle.step.proofs.Arms.{refused, done, present, collapse-ready, collapse-answered, collapse-done}
+use Rattle.step.proofs.Arms.{refused, done, collapse-ready, collapse-answered, collapse-done}
 use Rattle.command.specs.declared.Edit.the-variants.{Collapse}
 use Rattle.table.specs.Table.{table}
-use native.Mathlib.Omega.{arith}
 use mathlib.Core.Path.{sym, _∙_}
 use denote.Ref.{now}
 use borrow.Author.Needs.{needs}
@@ -27,7 +26,13 @@ returns : tie.Need-returns
 returns c = let a = c .before .before .before .before .before .before .before .before .before .before .before .before .args in let r = c .before .collapse-answer in refused (table (now (a .cv)) (now (a .co)) (now (a .cm)) (now (a .vc)) (now (a .vm)) (now (a .vp)) (a .counts .vertices) (a .counts .corners)) (Collapse (a .c) (a .p)) (r .result) (collapse-answered (table (now (a .cv)) (now (a .co)) (now (a .cm)) (now (a .vc)) (now (a .vm)) (now (a .vp)) (a .counts .vertices) (a .counts .corners)) (a .c) (a .p) (r .result) (r .ensures (now (a .vm)) (now (a .vp)) (a .counts .vertices))) (c .if1 .taken)
 
 collapse-edge-requires : tie.Need-collapse-edge-requires
-collapse-edge-requires c κs = let a = c .before .before .before .before .before .before .before .before .before .before .before .before .before .before .before .before .before .before .args in let r = c .before .before .before .before .before .before .before .collapse-answer in let w = collapse-ready (table (now (a .cv)) (now (a .co)) (now (a .cm)) (now (a .vc)) (now (a .vm)) (now (a .vp)) (a .counts .vertices) (a .counts .corners)) (a .c .0) (c .before .before .before .before .before .before .before .before .before .before .before .before .before .before .before .before .before .before .pre) (a .p) (sym (r .ensures (now (a .vm)) (now (a .vp)) (a .counts .vertices)) ∙ c .before .before .before .before .before .before .if1 .left) in (omega (arith, w .0, c .before .before .before .before .before .before .before .before .before .before .before .before .before .before .before .before .before .before .pre .wellFormed .cornersFit, c .before .before .before .before .before .before .before .before .before .before .before .before .before .before .before .before .before .before .pre .shaped .cornerMost), present (now (a .co)) (a .c .0) (omega (arith, c .before .before .before .before .before .before .before .before .before .before .before .before .before .before .before .before .slice-known2 .given (a .c .0))) (w .1))
+collapse-edge-requires c κs =
+    let a = c .before .before .before .before .before .before .before .before .before .before .before .before .before .before .before .before .before .before .args in
+    let r = c .before .before .before .before .before .before .before .collapse-answer in
+    collapse-ready (table (now (a .cv)) (now (a .co)) (now (a .cm)) (now (a .vc)) (now (a .vm)) (now (a .vp)) (a .counts .vertices) (a .counts .corners)) (a .c .0)
+    (c .before .before .before .before .before .before .before .before .before .before .before .before .before .before .before .before .before .before .pre)
+    (a .p)
+    (sym (r .ensures (now (a .vm)) (now (a .vp)) (a .counts .vertices)) ∙ c .before .before .before .before .before .before .if1 .left)
 
 same-length-5 : tie.Need-same-length-5
 same-length-5 c = search needs

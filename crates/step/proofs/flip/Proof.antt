@@ -1,8 +1,6 @@
-use Rattle.step.proofs.Arms.{refused, done, present, flip-ready, flip-answered, flip-done}
+use Rattle.step.proofs.Arms.{refused, done, flip-ready, flip-answered, flip-done}
 use Rattle.command.specs.declared.Edit.the-variants.{Flip}
 use Rattle.table.specs.Table.{table}
-use native.Mathlib.Omega.{arith}
-use mathlib.Core.List.{[]}
 use mathlib.Core.Path.{sym, _∙_}
 use denote.Ref.{now}
 use borrow.Author.Needs.{needs}
@@ -22,7 +20,12 @@ returns : tie.Need-returns
 returns c = λ vm vp. let a = c .before .before .before .before .before .before .before .before .args in let r = c .before .flip-answer in refused (table (now (a .cv)) (now (a .co)) (now (a .cm)) (now (a .vc)) vm vp (a .counts .vertices) (a .counts .corners)) (Flip (a .c)) (r .result) (flip-answered (table (now (a .cv)) (now (a .co)) (now (a .cm)) (now (a .vc)) vm vp (a .counts .vertices) (a .counts .corners)) (a .c) (r .result) (r .ensures (now (a .vc)) vm vp (a .counts .vertices))) (c .if1 .taken)
 
 flip-edge-requires : tie.Need-flip-edge-requires
-flip-edge-requires c κs = let a = c .before .before .before .before .before .before .before .before .before .before .before .args in let r = c .before .before .before .before .flip-answer in let w = flip-ready (table (now (a .cv)) (now (a .co)) (now (a .cm)) (now (a .vc)) [] [] (a .counts .vertices) (a .counts .corners)) (a .c .0) (sym (r .ensures (now (a .vc)) [] [] (a .counts .vertices)) ∙ c .before .before .before .if1 .left) in (omega (arith, w .0, c .before .before .before .before .before .before .before .before .before .before .before .pre), present (now (a .co)) (a .c .0) (omega (arith, c .before .before .before .before .before .before .before .before .before .slice-known2 .given (a .c .0))) (w .1))
+flip-edge-requires c κs =
+    let a = c .before .before .before .before .before .before .before .before .before .before .before .args in
+    let g = c .before .before .before .before .before .before .before .before .before .before .before .pre in
+    let r = c .before .before .before .before .flip-answer in
+    flip-ready (table (now (a .cv)) (now (a .co)) (now (a .cm)) (now (a .vc)) (g .vm) (g .vp) (a .counts .vertices) (a .counts .corners)) (a .c .0) (g .good)
+    (sym (r .ensures (now (a .vc)) (g .vm) (g .vp) (a .counts .vertices)) ∙ c .before .before .before .if1 .left)
 
 same-length-3 : tie.Need-same-length-3
 same-length-3 c = search needs

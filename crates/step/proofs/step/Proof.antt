@@ -15,7 +15,7 @@ enum-known-e-2 : tie.Need-enum-known-e-2
 enum-known-e-2 c = search needs
 
 flip-requires : tie.Need-flip-requires
-flip-requires c κs = search needs
+flip-requires c κs = let a = c .before .before .before .before .before .before .before .before .before .before .before .before .before .args in record { vm = now (a .vm); vp = now (a .vp); good = c .before .before .before .before .before .before .before .before .before .before .before .before .before .pre }
 
 enum-known-e-3 : tie.Need-enum-known-e-3
 enum-known-e-3 c = search needs
