@@ -7,7 +7,7 @@ ghost use Prim.Native.Nat.{ℕ, _+_, _<_};
 ghost use lib.Ieee.{Float};
 ghost use lib.ListN.{set, length};
 ghost use Rattle.corner.specs.Corner.{absent, firstCorner};
-ghost use Rattle.table.specs.Slots.{vertexAt, oppositeAt, paired, three};
+ghost use Rattle.table.specs.Slots.{vertexAt, oppositeAt, paired};
 ghost use Rattle.table.specs.Table.{table};
 ghost use Rattle.edit.specs.Plans.{triangle, around, CornersThere, VerticesThere, EdgeThere};
 ghost use Rattle.edit.specs.Flip.{flipVertices, flipOpposites, flipCorners, flipEdge};

@@ -1,6 +1,6 @@
 -- A command by its answer: refused, the table is as it was; done, it is the effect. Assumes nothing.
 use Prim.Native.Nat.{ℕ, _+_, _≤_, _<_}
-use mathlib.Core.Path.{_≡_, refl, sym, ap, subst, _∙_}
+use mathlib.Core.Path.{_≡_, refl, sym, subst, _∙_}
 use lib.ListN.{length}
 use mathlib.Core.Logic.{_≢_}
 use native.Mathlib.Omega.{arith}
