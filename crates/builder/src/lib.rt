@@ -27,7 +27,8 @@ fn clear(
     vp: &mut [f32],
 ) -> Counts
     requires { ⌜ Shaped (table (now cv) (now co) (now cm) (now vc) (now vm) (now vp) 0 0) ⌝ }
-    ensures { λ r. ⌜ table (now (cv .exit)) (now (co .exit)) (now (cm .exit)) (now (vc .exit)) (now (vm .exit)) (now (vp .exit)) (r .vertices) (r .corners)
+    ensures { λ r. ⌜ table (now (cv .exit)) (now (co .exit)) (now (cm .exit)) (now (vc .exit)) (now (vm .exit)) (now (vp .exit))
+        (r .vertices) (r .corners)
         ≡ blank (length (now (cm .entry))) (length (now (vm .entry))) ⌝ }
 {
     table::blank(cv, co, cm, vc, vm, vp);
@@ -53,7 +54,8 @@ fn finish(
 ) -> Built
     requires { ⌜ Begun (now cv) (now co) (now cm) (now vc) (now vm) (now vp) n count room skipped ⌝ }
     ensures { λ r. ⌜ ((points : List Float) → now (vp .entry) ≡ laid room points
-        → built (r .answer) (r .skipped) (table (now (cv .exit)) (now (co .exit)) (now (cm .exit)) (now (vc .exit)) (now (vm .exit)) (now (vp .exit)) (r .counts .vertices) (r .counts .corners))
+        → built (r .answer) (r .skipped) (table (now (cv .exit)) (now (co .exit)) (now (cm .exit)) (now (vc .exit)) (now (vm .exit))
+        (now (vp .exit)) (r .counts .vertices) (r .counts .corners))
         ≡ finishOf (length (now (cm .entry))) room count points (go (soFar (now (cv .entry)) (now (co .entry)) (now (vc .entry)) n skipped))) ⌝ }
 {
     builder_fans::mark_fans(co, vc, cm, n, count);
@@ -95,7 +97,9 @@ fn add_all(
     count: u32,
 ) -> Built
     requires { ⌜ Fresh (now cv) (now co) (now cm) (now vc) (now vm) (now vp) (now points) corners room count ⌝ }
-    ensures { λ r. ⌜ built (r .answer) (r .skipped) (table (now (cv .exit)) (now (co .exit)) (now (cm .exit)) (now (vc .exit)) (now (vm .exit)) (now (vp .exit)) (r .counts .vertices) (r .counts .corners))
+    ensures { λ r. ⌜ built (r .answer) (r .skipped)
+        (table (now (cv .exit)) (now (co .exit)) (now (cm .exit)) (now (vc .exit)) (now (vm .exit)) (now (vp .exit))
+        (r .counts .vertices) (r .counts .corners))
         ≡ finishOf corners room count (now (points .entry)) (facesOf count corners (start corners room) (now (faces .entry))) ⌝ }
 {
     builder_faces::add_vertices(vp, points);
@@ -136,8 +140,11 @@ pub fn build(
     points: &[f32],
     faces: &[u32],
 ) -> Built
-    ensures { λ r. ⌜ built (r .answer) (r .skipped) (table (now (cv .exit)) (now (co .exit)) (now (cm .exit)) (now (vc .exit)) (now (vm .exit)) (now (vp .exit)) (r .counts .vertices) (r .counts .corners))
-        ≡ buildOf (table (now (cv .entry)) (now (co .entry)) (now (cm .entry)) (now (vc .entry)) (now (vm .entry)) (now (vp .entry)) (counts .vertices) (counts .corners)) (now (points .entry)) (now (faces .entry)) ⌝ }
+    ensures { λ r. ⌜ built (r .answer) (r .skipped)
+        (table (now (cv .exit)) (now (co .exit)) (now (cm .exit)) (now (vc .exit)) (now (vm .exit)) (now (vp .exit))
+        (r .counts .vertices) (r .counts .corners))
+        ≡ buildOf (table (now (cv .entry)) (now (co .entry)) (now (cm .entry)) (now (vc .entry)) (now (vm .entry)) (now (vp .entry))
+        (counts .vertices) (counts .corners)) (now (points .entry)) (now (faces .entry)) ⌝ }
 {
     if !table::is_shaped(cv.len(), co.len(), cm.len(), vc.len(), vm.len(), vp.len()) {
         return Built {

@@ -115,7 +115,8 @@ fn take_chain(
 ) -> u32
     requires { ⌜ count ≤ room ⌝ }
     requires { ⌜ room < 4294967295 ⌝ }
-    ensures { λ r. ⌜ Ended room (takes (ring (now (co .entry)) n) v (chain (now (cm .entry)) n first) (shared (now (cv .entry)) (now (vc .entry)) (now (vp .entry)) count))
+    ensures { λ r. ⌜ Ended room (takes (ring (now (co .entry)) n) v (chain (now (cm .entry)) n first) (shared (now (cv .entry)) (now (vc .entry))
+        (now (vp .entry)) count))
         (now (cv .exit)) (now (vc .exit)) (now (vp .exit)) r ⌝ }
 {
     let mut h = first;
@@ -151,7 +152,8 @@ fn one_vertex(
 ) -> u32
     requires { ⌜ u ≤ room ⌝ }
     requires { ⌜ room < 4294967295 ⌝ }
-    ensures { λ r. ⌜ Ended room (vertexOf (ring (now (co .entry)) n) (now (cm .entry)) (now (vm .entry)) n v (shared (now (cv .entry)) (now (vc .entry)) (now (vp .entry)) u))
+    ensures { λ r. ⌜ Ended room (vertexOf (ring (now (co .entry)) n) (now (cm .entry)) (now (vm .entry)) n v (shared (now (cv .entry))
+        (now (vc .entry)) (now (vp .entry)) u))
         (now (cv .exit)) (now (vc .exit)) (now (vp .exit)) r ⌝ }
 {
     let first = table::at(vm, v as usize, 0);
@@ -172,7 +174,8 @@ pub fn settle(
 ) -> u32
     requires { ⌜ count ≤ room ⌝ }
     requires { ⌜ room < 4294967295 ⌝ }
-    ensures { λ r. ⌜ Ended room (settled (ring (now (co .entry)) n) (now (cm .entry)) (now (vm .entry)) n count 0 (shared (now (cv .entry)) (now (vc .entry)) (now (vp .entry)) count))
+    ensures { λ r. ⌜ Ended room (settled (ring (now (co .entry)) n) (now (cm .entry)) (now (vm .entry)) n count 0 (shared (now (cv .entry))
+        (now (vc .entry)) (now (vp .entry)) count))
         (now (cv .exit)) (now (vc .exit)) (now (vp .exit)) r ⌝ }
 {
     let mut v: u32 = 0;

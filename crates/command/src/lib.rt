@@ -84,7 +84,8 @@ fn room_for(vertices: u32, vroom: usize, corners: u32, croom: usize, n: u32) -> 
 
 // 12.
 fn same_wings(cv: &[u32], co: &[u32], c: Corner) -> u32
-    ensures { λ r. ⌜ ((cm vc vm : List ℕ) (vp : List Float) (i j : ℕ) → r ≡ sameWings (table (now (cv .entry)) (now (co .entry)) cm vc vm vp i j) (c .0)) ⌝ }
+    ensures { λ r. ⌜ ((cm vc vm : List ℕ) (vp : List Float) (i j : ℕ)
+        → r ≡ sameWings (table (now (cv .entry)) (now (co .entry)) cm vc vm vp i j) (c .0)) ⌝ }
 {
     let o = table::at(co, c.0 as usize, 4294967295);
     when(
@@ -96,7 +97,8 @@ fn same_wings(cv: &[u32], co: &[u32], c: Corner) -> u32
 // ---- the answers, each check in its place
 
 pub fn flip_answer(cv: &[u32], co: &[u32], cm: &[u32], corners: u32, c: Corner) -> u32
-    ensures { λ r. ⌜ ((vc vm : List ℕ) (vp : List Float) (i : ℕ) → r ≡ flipAnswer (table (now (cv .entry)) (now (co .entry)) (now (cm .entry)) vc vm vp i corners) (c .0)) ⌝ }
+    ensures { λ r. ⌜ ((vc vm : List ℕ) (vp : List Float) (i : ℕ)
+        → r ≡ flipAnswer (table (now (cv .entry)) (now (co .entry)) (now (cm .entry)) vc vm vp i corners) (c .0)) ⌝ }
 {
     let a = targeted(c.0 < corners, table::at(cm, c.0 as usize, 1));
     let b = when(table::at(co, c.0 as usize, 4294967295) == 4294967295, 11);
@@ -155,7 +157,8 @@ pub fn collapse_answer(
     p: Point,
 ) -> u32
     requires { ⌜ corners < absent ⌝ }
-    ensures { λ r. ⌜ ((vm : List ℕ) (vp : List Float) (i : ℕ) → r ≡ collapseAnswer (table (now (cv .entry)) (now (co .entry)) (now (cm .entry)) (now (vc .entry)) vm vp i corners) (c .0) p) ⌝ }
+    ensures { λ r. ⌜ ((vm : List ℕ) (vp : List Float) (i : ℕ)
+        → r ≡ collapseAnswer (table (now (cv .entry)) (now (co .entry)) (now (cm .entry)) (now (vc .entry)) vm vp i corners) (c .0) p) ⌝ }
 {
     let t = targeted(c.0 < corners, table::at(cm, c.0 as usize, 1));
     let good = p.finite();

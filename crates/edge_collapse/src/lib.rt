@@ -83,7 +83,8 @@ fn occurs(x: u32, cv: &[u32], co: &[u32], n: u32, c: Corner) -> bool
 // How many neighbours that the walk to the left from c0 passes after its first occur in the ring from `kept`.
 fn common_side(kept: Corner, cv: &[u32], co: &[u32], c0: Corner, n: u32) -> u32
     requires { ⌜ n < absent ⌝ }
-    ensures { λ r. ⌜ Counted (λ x. ltb 0 (timesIn (neighbours (now (cv .entry)) (now (co .entry)) n (kept .0)) x)) (λ d. vertexAt (now (cv .entry)) (previous d)) (side true (now (co .entry)) (c0 .0) n (c0 .0)) n r ⌝ }
+    ensures { λ r. ⌜ Counted (λ x. ltb 0 (timesIn (neighbours (now (cv .entry)) (now (co .entry)) n (kept .0)) x)) (λ d. vertexAt (now (cv .entry))
+        (previous d)) (side true (now (co .entry)) (c0 .0) n (c0 .0)) n r ⌝ }
 {
     let k = kept.0;
     let first = c0.previous_index();
@@ -108,7 +109,8 @@ fn common_side(kept: Corner, cv: &[u32], co: &[u32], c0: Corner, n: u32) -> u32
 // How many neighbours in the ring from `lost` occur in the ring from `kept`.
 fn common(kept: Corner, lost: Corner, cv: &[u32], co: &[u32], n: u32) -> u32
     requires { ⌜ n < absent ⌝ }
-    ensures { λ r. ⌜ r ≡ commonIn (neighbours (now (cv .entry)) (now (co .entry)) n (kept .0)) (neighbours (now (cv .entry)) (now (co .entry)) n (lost .0)) ⌝ }
+    ensures { λ r. ⌜ r ≡ commonIn (neighbours (now (cv .entry)) (now (co .entry)) n (kept .0)) (neighbours (now (cv .entry)) (now (co .entry)) n
+        (lost .0)) ⌝ }
 {
     let rest = common_side(kept, cv, co, lost, n);
     one_if(occurs(table::at(cv, lost.previous_index(), 0), cv, co, n, kept)) + rest
@@ -118,7 +120,8 @@ fn common(kept: Corner, lost: Corner, cv: &[u32], co: &[u32], n: u32) -> u32
 
 // "any edge at either end vertex lacks an opposite"
 pub fn will_collapse_affect_boundary(cv: &[u32], co: &[u32], vc: &[u32], n: u32, c: Corner) -> bool
-    ensures { λ r. ⌜ ((cm vm : List ℕ) (vp : List Float) (i : ℕ) → r ≡ affectsBoundary (table (now (cv .entry)) (now (co .entry)) cm (now (vc .entry)) vm vp i n) (c .0)) ⌝ }
+    ensures { λ r. ⌜ ((cm vm : List ℕ) (vp : List Float) (i : ℕ)
+        → r ≡ affectsBoundary (table (now (cv .entry)) (now (co .entry)) cm (now (vc .entry)) vm vp i n) (c .0)) ⌝ }
 {
     let kept = table::at(cv, c.next_index(), 0);
     let lost = table::at(cv, c.previous_index(), 0);
@@ -132,7 +135,8 @@ pub fn will_collapse_affect_boundary(cv: &[u32], co: &[u32], vc: &[u32], n: u32,
 // ring isn't exactly two"
 pub fn is_topologically_unsafe(cv: &[u32], co: &[u32], vc: &[u32], n: u32, c: Corner) -> bool
     requires { ⌜ n < absent ⌝ }
-    ensures { λ r. ⌜ ((cm vm : List ℕ) (vp : List Float) (i : ℕ) → r ≡ unsafe (table (now (cv .entry)) (now (co .entry)) cm (now (vc .entry)) vm vp i n) (c .0)) ⌝ }
+    ensures { λ r. ⌜ ((cm vm : List ℕ) (vp : List Float) (i : ℕ)
+        → r ≡ unsafe (table (now (cv .entry)) (now (co .entry)) cm (now (vc .entry)) vm vp i n) (c .0)) ⌝ }
 {
     let kept = table::at(cv, c.next_index(), 0);
     let lost = table::at(cv, c.previous_index(), 0);
@@ -240,7 +244,8 @@ pub struct Judged {
 
 pub fn judge(cv: &[u32], co: &[u32], vc: &[u32], n: u32, c: Corner) -> Judged
     requires { ⌜ n < absent ⌝ }
-    ensures { λ r. ⌜ ((cm vm : List ℕ) (vp : List Float) (i : ℕ) → Judges (table (now (cv .entry)) (now (co .entry)) cm (now (vc .entry)) vm vp i n) (c .0) (r .boundary) (r .bad)) ⌝ }
+    ensures { λ r. ⌜ ((cm vm : List ℕ) (vp : List Float) (i : ℕ)
+        → Judges (table (now (cv .entry)) (now (co .entry)) cm (now (vc .entry)) vm vp i n) (c .0) (r .boundary) (r .bad)) ⌝ }
 {
     let kept = table::at(cv, c.next_index(), 0);
     let lost = table::at(cv, c.previous_index(), 0);

@@ -126,7 +126,9 @@ fn ring_of(
     vertex: Vertex,
     list: &mut [u32],
 ) -> Ring
-    ensures { λ r. ⌜ outcome r (now (list .exit)) ≡ ringOf (kindOf kind) (vertex .0) (table (now (cv .entry)) (now (co .entry)) (now (cm .entry)) (now (vc .entry)) (now (vm .entry)) (now (vp .entry)) (counts .vertices) (counts .corners)) (now (list .entry)) ⌝ }
+    ensures { λ r. ⌜ outcome r (now (list .exit)) ≡ ringOf (kindOf kind) (vertex .0)
+        (table (now (cv .entry)) (now (co .entry)) (now (cm .entry)) (now (vc .entry)) (now (vm .entry)) (now (vp .entry))
+        (counts .vertices) (counts .corners)) (now (list .entry)) ⌝ }
 {
     if kind == 0 {
         return traversal::ring_corners(cv, co, cm, vc, vm, vp, counts, vertex, list);
@@ -181,7 +183,8 @@ fn move_of<'a>(
     vertices: u32,
     corners: u32,
 ) -> Moved
-    ensures { λ r. ⌜ r ≡ moveOf kind (table (now (cv .entry)) (now (co .entry)) (now (cm .entry)) (now (vc .entry)) (now (vm .entry)) (now (vp .entry)) vertices corners) (corner .0) ⌝ }
+    ensures { λ r. ⌜ r ≡ moveOf kind (table (now (cv .entry)) (now (co .entry)) (now (cm .entry)) (now (vc .entry)) (now (vm .entry))
+        (now (vp .entry)) vertices corners) (corner .0) ⌝ }
 {
     if kind == 0 {
         return replay_moves::moved_to_next(corner, cv, co, cm, vc, vm, vp, vertices, corners);

@@ -1,5 +1,5 @@
-// The five moves on a corner, each by a walker that is made here, lent to `walker` as `&mut`, and read afterwards: so the records of moves are played by
-// the moves in place.
+// The five moves on a corner, each by a walker that is made here, lent to `walker` as `&mut`, and read afterwards: so the records of
+// moves are played by the moves in place.
 ghost use mathlib.Core.Path.{_≡_};
 ghost use Rattle.table.specs.Table.{table};
 ghost use Rattle.walker.specs.Walker.{toNext, toPrevious, toOpposite, swungLeft, swungRight};

@@ -132,9 +132,11 @@ pub fn edit(
     n: u32,
 ) -> Ran
     ensures { λ r. ⌜ Outcome (now (script .entry)) (now (answers .entry))
-        (table (now (cv .entry)) (now (co .entry)) (now (cm .entry)) (now (vc .entry)) (now (vm .entry)) (now (vp .entry)) (counts .vertices) (counts .corners))
+        (table (now (cv .entry)) (now (co .entry)) (now (cm .entry)) (now (vc .entry)) (now (vm .entry)) (now (vp .entry))
+        (counts .vertices) (counts .corners))
         (r .answer) (r .rule) (r .slot) (now (answers .exit))
-        (table (now (cv .exit)) (now (co .exit)) (now (cm .exit)) (now (vc .exit)) (now (vm .exit)) (now (vp .exit)) (r .counts .vertices) (r .counts .corners)) ⌝ }
+        (table (now (cv .exit)) (now (co .exit)) (now (cm .exit)) (now (vc .exit)) (now (vm .exit)) (now (vp .exit))
+        (r .counts .vertices) (r .counts .corners)) ⌝ }
 {
     let v = checker::check(cv, co, cm, vc, vm, vp, counts);
     say_result(b"check: ", v.answer);

@@ -23,7 +23,8 @@ fn run_commands(
     requires { ⌜ Good (table (now cv) (now co) (now cm) (now vc) (now vm) (now vp) (counts .vertices) (counts .corners)) ⌝ }
     requires { ⌜ 5 * n ≤ length (now script) ⌝ }
     ensures { λ r. ⌜ Completed (now (script .entry)) n (now (answers .entry)) (now (answers .exit))
-        (table (now (cv .entry)) (now (co .entry)) (now (cm .entry)) (now (vc .entry)) (now (vm .entry)) (now (vp .entry)) (counts .vertices) (counts .corners))
+        (table (now (cv .entry)) (now (co .entry)) (now (cm .entry)) (now (vc .entry)) (now (vm .entry)) (now (vp .entry))
+        (counts .vertices) (counts .corners))
         (table (now (cv .exit)) (now (co .exit)) (now (cm .exit)) (now (vc .exit)) (now (vm .exit)) (now (vp .exit)) (r .vertices) (r .corners)) ⌝ }
 {
     let mut vertices = counts.vertices;
@@ -80,9 +81,11 @@ pub fn run(
     answers: &mut [u32],
 ) -> Ran
     ensures { λ r. ⌜ Outcome (now (script .entry)) (now (answers .entry))
-        (table (now (cv .entry)) (now (co .entry)) (now (cm .entry)) (now (vc .entry)) (now (vm .entry)) (now (vp .entry)) (counts .vertices) (counts .corners))
+        (table (now (cv .entry)) (now (co .entry)) (now (cm .entry)) (now (vc .entry)) (now (vm .entry)) (now (vp .entry))
+        (counts .vertices) (counts .corners))
         (r .answer) (r .rule) (r .slot) (now (answers .exit))
-        (table (now (cv .exit)) (now (co .exit)) (now (cm .exit)) (now (vc .exit)) (now (vm .exit)) (now (vp .exit)) (r .counts .vertices) (r .counts .corners)) ⌝ }
+        (table (now (cv .exit)) (now (co .exit)) (now (cm .exit)) (now (vc .exit)) (now (vm .exit)) (now (vp .exit))
+        (r .counts .vertices) (r .counts .corners)) ⌝ }
 {
     if table::is_shaped(cv.len(), co.len(), cm.len(), vc.len(), vm.len(), vp.len()) {
         if fits(script.len(), answers.len()) {

@@ -51,8 +51,10 @@ fn collapse(
 ) -> u32
     requires { ⌜ Good (table (now cv) (now co) (now cm) (now vc) (now vm) (now vp) (counts .vertices) (counts .corners)) ⌝ }
     ensures { λ r. ⌜ Stepped
-        (table (now (cv .entry)) (now (co .entry)) (now (cm .entry)) (now (vc .entry)) (now (vm .entry)) (now (vp .entry)) (counts .vertices) (counts .corners)) (Collapse c p) r
-        (table (now (cv .exit)) (now (co .exit)) (now (cm .exit)) (now (vc .exit)) (now (vm .exit)) (now (vp .exit)) (counts .vertices) (counts .corners)) ⌝ }
+        (table (now (cv .entry)) (now (co .entry)) (now (cm .entry)) (now (vc .entry)) (now (vm .entry)) (now (vp .entry))
+        (counts .vertices) (counts .corners)) (Collapse c p) r
+        (table (now (cv .exit)) (now (co .exit)) (now (cm .exit)) (now (vc .exit)) (now (vm .exit)) (now (vp .exit))
+        (counts .vertices) (counts .corners)) ⌝ }
 {
     let a = command::collapse_answer(cv, co, cm, vc, counts.corners, c, p);
     if a != 0 {
@@ -75,8 +77,10 @@ fn split_edge(
 ) -> Done
     requires { ⌜ Good (table (now cv) (now co) (now cm) (now vc) (now vm) (now vp) (counts .vertices) (counts .corners)) ⌝ }
     ensures { λ r. ⌜ Stepped
-        (table (now (cv .entry)) (now (co .entry)) (now (cm .entry)) (now (vc .entry)) (now (vm .entry)) (now (vp .entry)) (counts .vertices) (counts .corners)) (SplitEdge c p) (r .answer)
-        (table (now (cv .exit)) (now (co .exit)) (now (cm .exit)) (now (vc .exit)) (now (vm .exit)) (now (vp .exit)) (r .counts .vertices) (r .counts .corners)) ⌝ }
+        (table (now (cv .entry)) (now (co .entry)) (now (cm .entry)) (now (vc .entry)) (now (vm .entry)) (now (vp .entry))
+        (counts .vertices) (counts .corners)) (SplitEdge c p) (r .answer)
+        (table (now (cv .exit)) (now (co .exit)) (now (cm .exit)) (now (vc .exit)) (now (vm .exit)) (now (vp .exit))
+        (r .counts .vertices) (r .counts .corners)) ⌝ }
 {
     let a = command::split_edge_answer(co, cm, vm.len(), counts, c, p);
     if a != 0 {
@@ -105,8 +109,10 @@ fn split_face(
 ) -> Done
     requires { ⌜ Good (table (now cv) (now co) (now cm) (now vc) (now vm) (now vp) (counts .vertices) (counts .corners)) ⌝ }
     ensures { λ r. ⌜ Stepped
-        (table (now (cv .entry)) (now (co .entry)) (now (cm .entry)) (now (vc .entry)) (now (vm .entry)) (now (vp .entry)) (counts .vertices) (counts .corners)) (SplitFace f p) (r .answer)
-        (table (now (cv .exit)) (now (co .exit)) (now (cm .exit)) (now (vc .exit)) (now (vm .exit)) (now (vp .exit)) (r .counts .vertices) (r .counts .corners)) ⌝ }
+        (table (now (cv .entry)) (now (co .entry)) (now (cm .entry)) (now (vc .entry)) (now (vm .entry)) (now (vp .entry))
+        (counts .vertices) (counts .corners)) (SplitFace f p) (r .answer)
+        (table (now (cv .exit)) (now (co .exit)) (now (cm .exit)) (now (vc .exit)) (now (vm .exit)) (now (vp .exit))
+        (r .counts .vertices) (r .counts .corners)) ⌝ }
 {
     let a = command::split_face_answer(cm, vm.len(), counts, f, p);
     if a != 0 {
@@ -134,8 +140,10 @@ pub fn step(
 ) -> Done
     requires { ⌜ Good (table (now cv) (now co) (now cm) (now vc) (now vm) (now vp) (counts .vertices) (counts .corners)) ⌝ }
     ensures { λ r. ⌜ Stepped
-        (table (now (cv .entry)) (now (co .entry)) (now (cm .entry)) (now (vc .entry)) (now (vm .entry)) (now (vp .entry)) (counts .vertices) (counts .corners)) e (r .answer)
-        (table (now (cv .exit)) (now (co .exit)) (now (cm .exit)) (now (vc .exit)) (now (vm .exit)) (now (vp .exit)) (r .counts .vertices) (r .counts .corners)) ⌝ }
+        (table (now (cv .entry)) (now (co .entry)) (now (cm .entry)) (now (vc .entry)) (now (vm .entry)) (now (vp .entry))
+        (counts .vertices) (counts .corners)) e (r .answer)
+        (table (now (cv .exit)) (now (co .exit)) (now (cm .exit)) (now (vc .exit)) (now (vm .exit)) (now (vp .exit))
+        (r .counts .vertices) (r .counts .corners)) ⌝ }
 {
     match e {
         Edit::Collapse(c, p) => {

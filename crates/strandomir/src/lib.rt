@@ -76,7 +76,8 @@ pub extern "C" fn strandomir_build(
     points: &[f32],
     faces: &[u32],
 ) -> Built
-    ensures { λ r. ⌜ built (r .answer) (r .skipped) (table (now (cv .exit)) (now (co .exit)) (now (cm .exit)) (now (vc .exit)) (now (vm .exit)) (now (vp .exit)) (r .vertices) (r .corners))
+    ensures { λ r. ⌜ built (r .answer) (r .skipped)
+        (table (now (cv .exit)) (now (co .exit)) (now (cm .exit)) (now (vc .exit)) (now (vm .exit)) (now (vp .exit)) (r .vertices) (r .corners))
         ≡ buildOf (table (now (cv .entry)) (now (co .entry)) (now (cm .entry)) (now (vc .entry)) (now (vm .entry)) (now (vp .entry)) vertices corners)
         (now (points .entry)) (now (faces .entry)) ⌝ }
 {
@@ -107,7 +108,8 @@ pub extern "C" fn strandomir_check(
     vertices: u32,
     corners: u32,
 ) -> Checked
-    ensures { λ r. ⌜ verdict r ≡ verdictOf (table (now (cv .entry)) (now (co .entry)) (now (cm .entry)) (now (vc .entry)) (now (vm .entry)) (now (vp .entry)) vertices corners) ⌝ }
+    ensures { λ r. ⌜ verdict r ≡ verdictOf (table (now (cv .entry)) (now (co .entry)) (now (cm .entry)) (now (vc .entry)) (now (vm .entry))
+        (now (vp .entry)) vertices corners) ⌝ }
 {
     let counts = Counts {
         vertices: vertices,
@@ -346,7 +348,8 @@ pub extern "C" fn strandomir_move_to_next<'s, 'a>(
     vertices: u32,
     corners: u32,
 ) -> Moved
-    ensures { λ r. ⌜ MovedBy (toNext (table (now (cv .entry)) (now (co .entry)) (now (cm .entry)) (now (vc .entry)) (now (vm .entry)) (now (vp .entry)) vertices corners)
+    ensures { λ r. ⌜ MovedBy (toNext (table (now (cv .entry)) (now (co .entry)) (now (cm .entry)) (now (vc .entry)) (now (vm .entry))
+        (now (vp .entry)) vertices corners)
         (now (corner .entry))) r (now (corner .exit)) ⌝ }
 {
     let m = walker::next_from(Corner(*corner), cv, co, cm, vc, vm, vp, vertices, corners);
@@ -368,7 +371,8 @@ pub extern "C" fn strandomir_move_to_previous<'s, 'a>(
     vertices: u32,
     corners: u32,
 ) -> Moved
-    ensures { λ r. ⌜ MovedBy (toPrevious (table (now (cv .entry)) (now (co .entry)) (now (cm .entry)) (now (vc .entry)) (now (vm .entry)) (now (vp .entry)) vertices corners)
+    ensures { λ r. ⌜ MovedBy (toPrevious (table (now (cv .entry)) (now (co .entry)) (now (cm .entry)) (now (vc .entry)) (now (vm .entry))
+        (now (vp .entry)) vertices corners)
         (now (corner .entry))) r (now (corner .exit)) ⌝ }
 {
     let m = walker::previous_from(Corner(*corner), cv, co, cm, vc, vm, vp, vertices, corners);
@@ -390,7 +394,8 @@ pub extern "C" fn strandomir_move_to_opposite<'s, 'a>(
     vertices: u32,
     corners: u32,
 ) -> Moved
-    ensures { λ r. ⌜ MovedBy (toOpposite (table (now (cv .entry)) (now (co .entry)) (now (cm .entry)) (now (vc .entry)) (now (vm .entry)) (now (vp .entry)) vertices corners)
+    ensures { λ r. ⌜ MovedBy (toOpposite (table (now (cv .entry)) (now (co .entry)) (now (cm .entry)) (now (vc .entry)) (now (vm .entry))
+        (now (vp .entry)) vertices corners)
         (now (corner .entry))) r (now (corner .exit)) ⌝ }
 {
     let m = walker::opposite_from(Corner(*corner), cv, co, cm, vc, vm, vp, vertices, corners);
@@ -412,7 +417,8 @@ pub extern "C" fn strandomir_swing_left_or_stay<'s, 'a>(
     vertices: u32,
     corners: u32,
 ) -> Moved
-    ensures { λ r. ⌜ MovedBy (swungLeft (table (now (cv .entry)) (now (co .entry)) (now (cm .entry)) (now (vc .entry)) (now (vm .entry)) (now (vp .entry)) vertices corners)
+    ensures { λ r. ⌜ MovedBy (swungLeft (table (now (cv .entry)) (now (co .entry)) (now (cm .entry)) (now (vc .entry)) (now (vm .entry))
+        (now (vp .entry)) vertices corners)
         (now (corner .entry))) r (now (corner .exit)) ⌝ }
 {
     let m = walker::swing_left_from(Corner(*corner), cv, co, cm, vc, vm, vp, vertices, corners);
@@ -434,7 +440,8 @@ pub extern "C" fn strandomir_swing_right_or_stay<'s, 'a>(
     vertices: u32,
     corners: u32,
 ) -> Moved
-    ensures { λ r. ⌜ MovedBy (swungRight (table (now (cv .entry)) (now (co .entry)) (now (cm .entry)) (now (vc .entry)) (now (vm .entry)) (now (vp .entry)) vertices corners)
+    ensures { λ r. ⌜ MovedBy (swungRight (table (now (cv .entry)) (now (co .entry)) (now (cm .entry)) (now (vc .entry)) (now (vm .entry))
+        (now (vp .entry)) vertices corners)
         (now (corner .entry))) r (now (corner .exit)) ⌝ }
 {
     let m = walker::swing_right_from(Corner(*corner), cv, co, cm, vc, vm, vp, vertices, corners);

@@ -80,10 +80,14 @@ pub fn tally(
     vp: &[f32],
     counts: Counts,
 ) -> Sizes
-    ensures { λ r. ⌜ (r .vertices ≡ vertexCount (table (now (cv .entry)) (now (co .entry)) (now (cm .entry)) (now (vc .entry)) (now (vm .entry)) (now (vp .entry)) (counts .vertices) (counts .corners)))
-        × (r .edges ≡ edgeCount (table (now (cv .entry)) (now (co .entry)) (now (cm .entry)) (now (vc .entry)) (now (vm .entry)) (now (vp .entry)) (counts .vertices) (counts .corners)))
-        × (r .faces ≡ faceCount (table (now (cv .entry)) (now (co .entry)) (now (cm .entry)) (now (vc .entry)) (now (vm .entry)) (now (vp .entry)) (counts .vertices) (counts .corners)))
-        × (r .border ≡ bareCount (table (now (cv .entry)) (now (co .entry)) (now (cm .entry)) (now (vc .entry)) (now (vm .entry)) (now (vp .entry)) (counts .vertices) (counts .corners))) ⌝ }
+    ensures { λ r. ⌜ (r .vertices ≡ vertexCount (table (now (cv .entry)) (now (co .entry)) (now (cm .entry)) (now (vc .entry)) (now (vm .entry))
+        (now (vp .entry)) (counts .vertices) (counts .corners)))
+        × (r .edges ≡ edgeCount (table (now (cv .entry)) (now (co .entry)) (now (cm .entry)) (now (vc .entry)) (now (vm .entry)) (now (vp .entry))
+        (counts .vertices) (counts .corners)))
+        × (r .faces ≡ faceCount (table (now (cv .entry)) (now (co .entry)) (now (cm .entry)) (now (vc .entry)) (now (vm .entry)) (now (vp .entry))
+        (counts .vertices) (counts .corners)))
+        × (r .border ≡ bareCount (table (now (cv .entry)) (now (co .entry)) (now (cm .entry)) (now (vc .entry)) (now (vm .entry)) (now (vp .entry))
+        (counts .vertices) (counts .corners))) ⌝ }
 {
     let nv = counts.vertices;
     let nc = counts.corners;
