@@ -30,7 +30,7 @@ refused rc rv a = built a 0 (blank rc rv)
 
 -- ---- points
 
--- "Points come as a lent list of f32, three to a point. They are added in order": the numbers, and 0.0 in the slots after them.
+-- "Points come as a lent list of f32, three to a point .. They are added in order": the numbers, and 0.0 in the slots after them.
 unfoldable pub laid : ℕ → List Float → List Float
 laid rv points = points ++ replicate (3 * rv - length points) nought
 

@@ -18,7 +18,7 @@ first a b = cond (eqb a 0) b a
 abbrev pub when : Bool → ℕ → ℕ
 when wrong n = cond wrong n 0
 
--- "9 no such target", "10 target deleted", by whether the target is used and by its mark
+-- 9 "no such target", 10 "target deleted", by whether the target is used and by its mark
 unfoldable pub targeted : Bool → ℕ → ℕ
 targeted used mark = cond used (when (not (eqb mark 0)) 10) 9
 
@@ -28,18 +28,18 @@ cornerTarget t c = targeted (ltb c (t .corners)) (markAt (t .cornerMark) c)
 abbrev pub faceTarget : Table → ℕ → ℕ
 faceTarget t f = targeted (ltb f (t .corners / 3)) (markAt (t .cornerMark) (firstCorner f))
 
--- "4 point not finite"
+-- 4 "point not finite"
 abbrev pub notFinite : Point → ℕ
 notFinite p = when (not (finitePoint p)) 4
 
--- "5 no vertex room", "6 no corner room", for one vertex and n corners more
+-- 5 "no vertex room", 6 "no corner room", for one vertex and n corners more
 unfoldable pub roomFor : (vertices vroom corners croom n : ℕ) → ℕ
 roomFor vertices vroom corners croom n = first (when (ltb vroom (vertices + 1)) 5) (when (ltb croom (corners + n)) 6)
 
 abbrev pub noRoom : Table → ℕ → ℕ
 noRoom t n = roomFor (t .vertices) (vertexRoom t) (t .corners) (cornerRoom t) n
 
--- "11 border", of a flip: "only for an edge without opposite"
+-- 11 "border", of a flip: "only for an edge without opposite"
 abbrev pub noOpposite : Table → ℕ → ℕ
 noOpposite t c = when (eqb (opposite t c) absent) 11
 
@@ -47,7 +47,7 @@ noOpposite t c = when (eqb (opposite t c) absent) 11
 abbrev pub sameWings : Table → ℕ → ℕ
 sameWings t c = when (eqb (vertex t c) (vertex t (opposite t c))) 12
 
--- "collapse 9, 10, 4, 11, 12, 13"
+-- in the order of collapse: 9, 10, 4, 11, 12, 13
 unfoldable pub collapseAnswer : Table → ℕ → Point → ℕ
 collapseAnswer t c p =
     first (cornerTarget t c)
@@ -55,18 +55,18 @@ collapseAnswer t c p =
     (first (when (affectsBoundary t c) 11)
     (first (sameWings t c) (when (unsafe t c) 13))))
 
--- "flip 9, 10, 11, 12"
+-- of flip: 9, 10, 11, 12
 unfoldable pub flipAnswer : Table → ℕ → ℕ
 flipAnswer t c = first (cornerTarget t c) (first (noOpposite t c) (sameWings t c))
 
--- "split edge, split face 9, 10, 4, 5, 6". "An inner edge or a face needs 1 vertex and 6 corners; a border edge 1 and 3."
+-- of split edge and split face: 9, 10, 4, 5, 6. "An inner edge or a face needs 1 vertex and 6 corners; a border edge 1 and 3."
 unfoldable pub splitEdgeAnswer : Table → ℕ → Point → ℕ
 splitEdgeAnswer t c p = first (cornerTarget t c) (first (notFinite p) (noRoom t (cond (eqb (opposite t c) absent) 3 6)))
 
 unfoldable pub splitFaceAnswer : Table → ℕ → Point → ℕ
 splitFaceAnswer t f p = first (faceTarget t f) (first (notFinite p) (noRoom t 6))
 
--- "any other 14"
+-- of any other kind: 14
 unfoldable pub answer : Table → Edit → ℕ
 answer t (Collapse c p) = collapseAnswer t (c .0) p
 answer t (Flip c) = flipAnswer t (c .0)

@@ -1,4 +1,5 @@
--- Document 01, "The script": "five [words] to a command: kind, target (an edge's corner; for 4 a face number), and the bits of x, y, z".
+-- Document 01, "The script": "a lent list of 32-bit words, five to a command: kind, target (an edge's corner; for 4 a face number), and the
+-- bits of x, y, z".
 use Prim.Native.Nat.{ℕ, _+_, _*_}
 use mathlib.Core.Bool.{cond}
 use mathlib.Core.List.{List}

@@ -131,7 +131,7 @@ pub fn will_collapse_affect_boundary(cv: &[u32], co: &[u32], vc: &[u32], n: u32,
     meets_border(co, n, Corner(table::at(vc, lost as usize, 4294967295)))
 }
 
-// "a third live face holds both end vertices, or the number of entries in the deleted vertex's neighbour ring that occur in the kept vertex's
+// "a third live face holds both end vertices, or if the number of entries in the deleted vertex's neighbour ring that occur in the kept vertex's
 // ring isn't exactly two"
 pub fn is_topologically_unsafe(cv: &[u32], co: &[u32], vc: &[u32], n: u32, c: Corner) -> bool
     requires { ⌜ n < absent ⌝ }

@@ -120,7 +120,7 @@ module _ (t : Table) (Z : Shaped t) (W : WellFormed t) where
     boundary-kept c h n room =
         kept t (splitBoundaryEdge t c at) Z (boundary-lengths t c at) (rim-wf t Z W room vroom c h n at f) (rim-euler t Z W room vroom c h n at f)
 
-    -- "An inner edge needs 6 corners, a border edge 3"
+    -- an inner edge takes 6 corners, a border edge 3
     pub edge-kept : (c : ℕ) → Live t c → t .corners + cond (eqb (opposite t c) absent) 3 6 ≤ cornerRoom t → Kept t (splitEdge t c at)
     unfolding splitEdge
     edge-kept c h room = go (ℕ-discrete (opposite t c) absent)

@@ -27,6 +27,6 @@ pairedCount t = count (t .corners) (λ c. live (t .cornerMark) (t .corners) c &&
 unfoldable pub edgeCount : Table → ℕ
 edgeCount t = bareCount t + pairedCount t / 2
 
--- "V−E+F is what it was", without a difference: both sides have the other's edges added
+-- demand 3: V−E+F is what it was, without a difference: both sides have the other's edges added
 abbrev pub SameEuler : Table → Table → Type 0
 SameEuler t u = vertexCount u + faceCount u + edgeCount t ≡ vertexCount t + faceCount t + edgeCount u

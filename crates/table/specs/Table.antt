@@ -10,8 +10,8 @@ use Rattle.corner.specs.Corner.{absent}
 use Rattle.vertex.specs.declared.Point.{Point}
 use Rattle.table.specs.Slots.{vertexAt, oppositeAt, cornerAt, markAt, nought, pointAt}
 
--- "Corner slot: vertex, opposite, deleted mark. Vertex slot: corner, a point, deleted mark. Two counts: vertex slots used, corner
--- slots used." A point's three numbers stand in a row.
+-- "Corner slot: vertex, opposite .. deleted mark 0 or 1. Vertex slot: corner, a point of three f32 numbers, deleted mark. Two counts: vertex
+-- slots used, corner slots used." A point's three numbers stand in a row.
 pub record Table : Type 0 where
   pub cornerVertex : List ℕ
   pub cornerOpposite : List ℕ
