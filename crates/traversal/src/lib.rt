@@ -125,7 +125,7 @@ fn last_crossed(left: bool, start: Corner) -> Corner
     if left {
         start.previous()
     } else {
-        Corner(4294967295)
+        Corner::ABSENT
     }
 }
 
