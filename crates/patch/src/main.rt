@@ -124,6 +124,16 @@ fn say_built(words: &[u32], skipped: u64) {
 
 // ---- the job
 
+// The counts of a table that is still to be built.
+fn none_used() -> Counts
+    ensures { λ r. ⌜ (r .vertices ≡ 0) × (r .corners ≡ 0) ⌝ }
+{
+    Counts {
+        vertices: 0,
+        corners: 0,
+    }
+}
+
 fn job(words: &[u32]) {
     let mut numbers = [0.0f32; 49152];
     let mut answers = [0u32; 16384];
@@ -141,10 +151,7 @@ fn job(words: &[u32]) {
         &mut vc,
         &mut vm,
         &mut vp,
-        Counts {
-            vertices: 0,
-            corners: 0,
-        },
+        none_used(),
         front(&numbers, point_words(words).len()),
         face_words(words),
     );
