@@ -1,6 +1,6 @@
 //! This library and the Rust, side by side: the same patch, the same commands, one run, turn about. Prints, for each row, the median time
-//! of each and the median of the ratios, taken pair by pair; for edits the least time of each, since the time of the check that a run
-//! begins with has to be taken off and is many times theirs.
+//! of each and the median of the ratios, taken pair by pair. From a run of edits the time of the check that it begins with is taken off, as
+//! it was just before on the same table: the check is many times theirs, and the machine's speed changes from turn to turn.
 
 #[path = "../tests/oracle/driver/library.rs"]
 #[allow(dead_code)]
@@ -230,6 +230,8 @@ fn edits(name: &str, floor: &Floor, table: &Table, script: &[u32], whole: bool, 
         Probe::reserve(&mut rust, COMMANDS, 6 * COMMANDS);
         let (mut words, mut answers) = (Memory::of(script), Memory::of(&vec![9; commands]));
         let (mut none, mut unused) = (Memory::of(&[]), Memory::of(&[]));
+        // once before it counts, so that this check finds the table as warm as the run's own
+        lent.run(&mut none, &mut unused);
         let before = nanoseconds(|| {
             black_box(lent.run(&mut none, &mut unused));
         });
@@ -246,13 +248,9 @@ fn edits(name: &str, floor: &Floor, table: &Table, script: &[u32], whole: bool, 
         let theirs = nanoseconds(|| run_rust(&mut rust, script));
         assert!(answers.words().iter().all(|&answer| answer == 0), "every command is accepted");
         assert_eq!(Probe::corner_count(&rust), lent.corners as usize, "both did the same");
-        (before, run, theirs)
+        (if whole { run } else { run - before }, theirs)
     });
-    let times: Vec<(f64, f64, f64)> = times.collect();
-    let least = |of: fn(&(f64, f64, f64)) -> f64| times.iter().map(of).fold(f64::MAX, f64::min) / commands as f64;
-    let (check, run, rust) = (least(|t| t.0), least(|t| t.1), least(|t| t.2));
-    let ours = if whole { run } else { run - check };
-    println!("| {name} ({commands} commands), a command | {ours:.1} | {rust:.1} | {:.2} |", ours / rust);
+    row(&format!("{name} ({commands} commands), a command"), commands, times.collect());
 }
 
 fn measure(side: usize, turns: usize, with_build: bool) {
@@ -275,5 +273,5 @@ fn measure(side: usize, turns: usize, with_build: bool) {
 
 fn main() {
     measure(32, 301, true);
-    measure(176, 61, false);
+    measure(176, 201, false);
 }
