@@ -97,12 +97,6 @@ next-injective c d e = cc (previous-next c, previous-next d)
 pub previous-injective : (c d : ℕ) → previous c ≡ previous d → c ≡ d
 previous-injective c d e = cc (next-previous c, next-previous d)
 
-pub previous-differs : (c : ℕ) → previous c ≢ c
-previous-differs c e = next-differs c (cc (next-previous c))
-
-pub next-not-previous : (c : ℕ) → next c ≢ previous c
-next-not-previous c e = next-differs (next c) (cc (next-next c))
-
 -- a corner of a face is below a count of corners (a multiple of 3) with its first
 pub next-below : (c n : ℕ) → n % 3 ≡ 0 → c < n → next c < n
 next-below c n m h = go (third c)

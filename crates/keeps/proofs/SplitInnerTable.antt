@@ -140,14 +140,6 @@ module _ (t : Table) (Z : Shaped t) (W : WellFormed t) (room : t .corners + 6 �
     unfolding b5 O1
     b5-near m = o1-seen c5 (omega arith) .value ∙ at-other _ _ _ _ (omega arith) ∙ ap (at (opposite t c0) (n + 2) G) (sym m) ∙ at-same _ _ _
 
-    -- b5 is old, absent or n + 2
-    b5-not : (e : ℕ) → n ≤ e → e ≤ n + 5 → e ≢ n + 2 → e ≢ b5
-    b5-not e a b m z = go (ℕ-discrete (opposite t c0) c5)
-      where
-        go : Dec (opposite t c0 ≡ c5) → ⊥
-        go (yes y) = m (z ∙ b5-near y)
-        go (no y) = outer-old c5 e (l5 L A) a b (sym (z ∙ b5-far y))
-
     q0 : getD co′ c0 absent ≡ n + 1
     unfolding O5
     q0 = co-at c0 (omega arith) ∙ at-other _ _ _ _ (omega arith) ∙ at-other _ _ _ _ (omega arith) ∙ at-other _ _ _ _ (omega arith) ∙ at-other _ _ _ _ x05 ∙ at-other _ _ _ _ (omega arith) ∙ at-same _ _ _

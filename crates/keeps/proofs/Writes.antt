@@ -13,9 +13,6 @@ use Rattle.table.specs.Slots.{markAt, nought, pointAt, withPoint, paired, three
 use Rattle.fan.proofs.Redirect.{at, at-other, at-ind, Seen, set-seen, set-at}
 use Rattle.edit.specs.SplitFace.{six}
 
-pub length-paired : (o : List ℕ) (a b : ℕ) → length (paired o a b) ≡ length o
-length-paired o a b = simp length-set
-
 pub paired-seen : {o : List ℕ} {f : ℕ → ℕ} {x d : ℕ} (a b : ℕ) → Seen o f x d → Seen (paired o a b) (at b a (at a b f)) x d
 paired-seen a b s = set-seen b a (set-seen a b s)
 
