@@ -7,7 +7,7 @@ use Rattle.table.specs.Slots.{nought}
 use Rattle.table.specs.Table.{Table, table, blank, shapedBy}
 use Rattle.table.specs.Meshes.{one, two, three, meshA, meshB, meshT}
 use Rattle.ring.specs.Ring.{side, ring}
-use Rattle.build.specs.Build.{Outcome, built, refused, laid, edgeAt, findEdge, grow, face, faces, give, left, corners, vertices, isolated, finish, build}
+use Rattle.build.specs.Build.{BuildOutcome, built, refused, laid, edgeAt, findEdge, grow, face, faces, give, left, corners, vertices, isolated, finish, build}
 
 -- vertex v at (v, 0, 0)
 abbrev threePoints : List Float
@@ -17,7 +17,7 @@ abbrev fourPoints : List Float
 fourPoints = nought ∷ nought ∷ nought ∷ one ∷ nought ∷ nought ∷ two ∷ nought ∷ nought ∷ three ∷ nought ∷ nought ∷ []
 
 -- nothing skipped
-abbrev made : Table → Outcome
+abbrev made : Table → BuildOutcome
 made t = built 0 0 t
 
 -- "A: points 0 to 2, face 0 1 2."

@@ -11,12 +11,12 @@ use lib.ListN.{getD, replicate, length-replicate}
 use Rattle.corner.specs.Corner.{absent}
 use Rattle.table.specs.Table.{maxCorners}
 use Rattle.table.proofs.Shape.{and-true}
-use Rattle.build.specs.Build.{SoFar, start, found, holds, skip, grow, Step, refuse, go, known, repeated, taken, face, onStep, faces}
+use Rattle.build.specs.Build.{SoFar, start, found, held, skip, grow, Course, refuse, go, known, repeated, taken, face, onCourse, faces}
 use Rattle.build.specs.Ready.{Ready}
 use Rattle.build.proofs.Ready.{grow-ready, skip-ready}
 
 -- what a step leaves is ready, and a refusal has a number that isn't 0
-abbrev pub Leaves : (SoFar → Type 0) → Step → Type 0
+abbrev pub Leaves : (SoFar → Type 0) → Course → Type 0
 Leaves P (refuse n) = n ≢ 0
 Leaves P (go s) = P s
 
@@ -25,7 +25,7 @@ or-false true b e = absurd (true≢false e)
 or-false false b e = (refl, e)
 
 module _ (nv room vroom : ℕ) where
-  abbrev pub Fine : Step → Type 0
+  abbrev pub Fine : Course → Type 0
   Fine = Leaves (Ready nv room vroom)
 
   pub face-ready : (s : SoFar) → Ready nv room vroom s → (a b c : ℕ) → Fine (face nv room s a b c)
@@ -43,8 +43,8 @@ module _ (nv room vroom : ℕ) where
           let n2 = and-true (ltb b nv) (ltb c nv) (n1 .1) in
           let r1 = or-false (eqb a b) (eqb b c || eqb c a) q in
           let r2 = or-false (eqb b c) (eqb c a) (r1 .1) in
-          let t1 = or-false (holds s b c) (holds s c a || holds s a b) w in
-          let t2 = or-false (holds s c a) (holds s a b) (t1 .1) in
+          let t1 = or-false (held s b c) (held s c a || held s a b) w in
+          let t2 = or-false (held s c a) (held s a b) (t1 .1) in
           grow-ready nv room vroom s R a b c
           (ltb-true a nv (n1 .0))
           (ltb-true b nv (n2 .0))
@@ -64,7 +64,7 @@ module _ (nv room vroom : ℕ) where
   faces-ready (a ∷ b ∷ []) s R = R
   faces-ready (a ∷ b ∷ c ∷ fs) s R = by (λ u f. faces-ready fs u f) (face nv room s a b c) (face-ready s R a b c)
     where
-      by : ((u : SoFar) → Ready nv room vroom u → Fine (faces nv room u fs)) → (t : Step) → Fine t → Fine (onStep t (λ u. faces nv room u fs))
+      by : ((u : SoFar) → Ready nv room vroom u → Fine (faces nv room u fs)) → (t : Course) → Fine t → Fine (onCourse t (λ u. faces nv room u fs))
       by more (refuse n) f = f
       by more (go u) f = more u f
 

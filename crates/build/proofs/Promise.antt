@@ -10,7 +10,7 @@ use lib.Ieee.{Float}
 use lib.ListN.{length}
 use Rattle.table.specs.Table.{Table, cornerRoom, vertexRoom, shaped, Shaped, maxVertices}
 use Rattle.table.proofs.Shape.{and-true, shaped-true}
-use Rattle.build.specs.Build.{Step, refuse, go, faces, refused, start, allFinite, done, spread, finish, build, Finished}
+use Rattle.build.specs.Build.{Course, refuse, go, faces, refused, start, allFinite, done, spread, finish, build, Finished}
 use Rattle.build.proofs.Folded.{Fine, faces-ready, start-ready}
 use Rattle.build.proofs.Finished.{done-formed, done-shaped}
 
@@ -18,7 +18,7 @@ never : (n : ℕ) → (n ≡ 0 → ⊥) → (rc rv : ℕ) → Finished (refused 
 never n h rc rv e = absurd (h e)
 
 finish-good : (rc rv nv : ℕ) (points : List Float) → allFinite points ≡ true → rv ≤ maxVertices → length points ≤ 3 * rv
-    → (t : Step) → Fine nv rc rv t → Finished (finish rc rv nv points t)
+    → (t : Course) → Fine nv rc rv t → Finished (finish rc rv nv points t)
 unfolding finish
 finish-good rc rv nv points F m l (refuse a) h = never a h rc rv
 finish-good rc rv nv points F m l (go k) R = by (ltb rv (spread rv nv points k .nv)) refl

@@ -15,17 +15,17 @@ use Rattle.table.specs.Rules.{WellFormed}
 use Rattle.ring.specs.Ring.{ring}
 
 -- What a build answers, how many faces it skipped, and the table that it leaves.
-pub record Outcome : Type 0 where
+pub record BuildOutcome : Type 0 where
   pub answer : ℕ
   pub skipped : ℕ
   pub result : Table
 
 -- ... of these three
-abbrev pub built : ℕ → ℕ → Table → Outcome
+abbrev pub built : ℕ → ℕ → Table → BuildOutcome
 built a skipped t = record { answer = a; skipped = skipped; result = t }
 
 -- "A refusal other than 1 leaves" the blank table. "A refused build reports 0 skipped."
-abbrev pub refused : (rc rv : ℕ) → ℕ → Outcome
+abbrev pub refused : (rc rv : ℕ) → ℕ → BuildOutcome
 refused rc rv a = built a 0 (blank rc rv)
 
 -- ---- points
@@ -81,11 +81,11 @@ abbrev pub repeated : ℕ → ℕ → ℕ → Bool
 repeated a b c = eqb a b || (eqb b c || eqb c a)
 
 -- "a directed edge already held by a kept face"
-abbrev pub holds : SoFar → ℕ → ℕ → Bool
-holds s x y = not (eqb (found s x y) absent)
+abbrev pub held : SoFar → ℕ → ℕ → Bool
+held s x y = not (eqb (found s x y) absent)
 
 abbrev pub taken : SoFar → ℕ → ℕ → ℕ → Bool
-taken s a b c = holds s b c || (holds s c a || holds s a b)
+taken s a b c = held s b c || (held s c a || held s a b)
 
 -- "the face is skipped and counted, not refused"
 abbrev pub skip : SoFar → SoFar
@@ -104,12 +104,13 @@ grow s a b c =
       skipped = s .skipped;
     }
 
-pub data Step : Type 0 where
-  refuse : ℕ → Step
-  go : SoFar → Step
+-- where a face leads: to a refusal, or on
+pub data Course : Type 0 where
+  refuse : ℕ → Course
+  go : SoFar → Course
 
 -- "For each face, in this order": 2, 3, skipped, "no room for three corners (6)"
-unfoldable pub face : (nv room : ℕ) → SoFar → ℕ → ℕ → ℕ → Step
+unfoldable pub face : (nv room : ℕ) → SoFar → ℕ → ℕ → ℕ → Course
 face nv room s a b c =
     cond (known nv a b c)
     (cond (repeated a b c) (refuse 3)
@@ -117,16 +118,16 @@ face nv room s a b c =
     (cond (ltb room (s .nc + 3)) (refuse 6) (go (grow s a b c)))))
     (refuse 2)
 
-abbrev pub onStep : Step → (SoFar → Step) → Step
-onStep (refuse n) f = refuse n
-onStep (go s) f = f s
+abbrev pub onCourse : Course → (SoFar → Course) → Course
+onCourse (refuse n) f = refuse n
+onCourse (go s) f = f s
 
 -- "faces in triples; one or two indices left at the end are ignored"
-unfoldable pub faces : (nv room : ℕ) → SoFar → List ℕ → Step
+unfoldable pub faces : (nv room : ℕ) → SoFar → List ℕ → Course
 faces nv room s [] = go s
 faces nv room s (a ∷ []) = go s
 faces nv room s (a ∷ b ∷ []) = go s
-faces nv room s (a ∷ b ∷ c ∷ fs) = onStep (face nv room s a b c) (λ t. faces nv room t fs)
+faces nv room s (a ∷ b ∷ c ∷ fs) = onCourse (face nv room s a b c) (λ t. faces nv room t fs)
 
 -- ---- duplicates
 
@@ -182,20 +183,20 @@ isolated vc (suc k) i m = isolated vc k (suc i) (cond (eqb (cornerAt vc i) absen
 -- ---- the whole call
 
 -- the corner slots of k as they are, with the vertices of s
-abbrev pub done : (rc rv : ℕ) → SoFar → Shared → Outcome
+abbrev pub done : (rc rv : ℕ) → SoFar → Shared → BuildOutcome
 done rc rv k s =
     built 0 (k .skipped)
     (table (s .cv) (k .co) (replicate rc 0) (s .vc) (isolated (s .vc) (s .nv) 0 (replicate rv 0)) (s .vp) (s .nv) (k .nc))
 
 -- "If the duplicates don't fit, the build is refused (5)."
-unfoldable pub finish : (rc rv nv : ℕ) → List Float → Step → Outcome
+unfoldable pub finish : (rc rv nv : ℕ) → List Float → Course → BuildOutcome
 finish rc rv nv points (refuse a) = refused rc rv a
 finish rc rv nv points (go k) =
     cond (ltb rv (spread rv nv points k .nv)) (refused rc rv 5) (done rc rv k (spread rv nv points k))
 
 -- "Order over the call: 1; more points than room (5); a point not finite (4); faces; duplicates." Answer 1: "lent parts disagree in
 -- length, or room above the maximum", or points in another length than threes; "nothing written", and the counts handed back.
-unfoldable pub build : Table → List Float → List ℕ → Outcome
+unfoldable pub build : Table → List Float → List ℕ → BuildOutcome
 build t points fs =
     let rc = cornerRoom t in
     let rv = vertexRoom t in
@@ -206,5 +207,5 @@ build t points fs =
     (built 1 0 t)
 
 -- The promise, for every input: a finished build leaves a well-formed table.
-abbrev pub Finished : Outcome → Type 0
+abbrev pub Finished : BuildOutcome → Type 0
 Finished o = o .answer ≡ 0 → Shaped (o .result) × WellFormed (o .result)

@@ -18,7 +18,7 @@ use Rattle.table.specs.declared.Counts.{Counts}
 use Rattle.fan.proofs.Fan.{Linked}
 use Rattle.ring.specs.Ring.{ring}
 use Rattle.ring.proofs.Exact.{ring-exact}
-use Rattle.build.specs.Build.{SoFar, Step, go, faces, Shared, vertices, Outcome, built, refused, start, laid, allFinite, isolated, done, spread, finish, build}
+use Rattle.build.specs.Build.{SoFar, Course, go, faces, Shared, vertices, BuildOutcome, built, refused, start, laid, allFinite, isolated, done, spread, finish, build}
 use Rattle.build.specs.Ready.{Ready}
 use Rattle.build.proofs.Grow.{paired-linked}
 use Rattle.build.proofs.Folded.{Fine, faces-ready, start-ready}
@@ -153,7 +153,7 @@ module _ (cv co cm vc vm : List ℕ) (vp ps : List Float) (rc rv nv : ℕ) (B : 
     e′ = e ∙ ap (λ (k : SoFar). faces nv rc k fs) begin
 
     fine : Fine nv rc rv (stepped a (soFar cv′ co′ vc′ n sk))
-    fine = subst (λ (t : Step). Fine nv rc rv t) (sym e′) (faces-ready nv rc rv fs (start rc rv) (start-ready nv rc rv (B .fits) (B .corners)))
+    fine = subst (λ (t : Course). Fine nv rc rv t) (sym e′) (faces-ready nv rc rv fs (start rc rv) (start-ready nv rc rv (B .fits) (B .corners)))
 
     ready : (x : ℕ) → Fine nv rc rv (stepped x (soFar cv′ co′ vc′ n sk)) → x ≡ 0 → Ready nv rc rv (soFar cv′ co′ vc′ n sk)
     ready zero h z = h
@@ -176,7 +176,7 @@ module _ (cv co cm vc vm : List ℕ) (vp ps : List Float) (rc rv nv : ℕ) (B : 
         by zero n q = absurd (n refl)
         by (suc x) n q = ap (finish rc rv nv ps) q
 
-    pub made-done : a ≡ 0 → (o : Outcome) → o ≡ finish (length cm) rv nv ps (go (soFar cv′ co′ vc′ n sk)) → o ≡ finish rc rv nv ps (faces nv rc (start rc rv) fs)
+    pub made-done : a ≡ 0 → (o : BuildOutcome) → o ≡ finish (length cm) rv nv ps (go (soFar cv′ co′ vc′ n sk)) → o ≡ finish rc rv nv ps (faces nv rc (start rc rv) fs)
     made-done z o q = q ∙ ap (λ (x : ℕ). finish x rv nv ps (go (soFar cv′ co′ vc′ n sk))) cm-long ∙ ap (finish rc rv nv ps) (by a z e′)
       where
         by : (x : ℕ) → x ≡ 0 → stepped x (soFar cv′ co′ vc′ n sk) ≡ faces nv rc (start rc rv) fs → go (soFar cv′ co′ vc′ n sk) ≡ faces nv rc (start rc rv) fs
@@ -237,7 +237,7 @@ module _ (cv co cm vc vm : List ℕ) (vp ps : List Float) (fs : List ℕ) (nv nc
             let e : table cv′ co′ cm′ vc′ vm′ vp′ (n .vertices) (n .corners) ≡ table cv′ co′ cm′ vc′ vm′ vp′ 0 0 = rw (p, q) in
             record { empty = sym e ∙ B; corners = S .cornerMost; rooms = S .vertexMost; fits = h; thirds = omega (arith, z) }
 
-        pub build-made : t ≡ true → (o : Outcome)
+        pub build-made : t ≡ true → (o : BuildOutcome)
             → o ≡ finish (length cm) (length vm) (length ps / 3) ps (faces (length ps / 3) (length cm) (start (length cm) (length vm)) fs)
             → o ≡ build (table cv co cm vc vm vp nv nc) ps fs
         unfolding build

@@ -10,7 +10,7 @@ use lib.Dec.{eqb, ltb}
 use lib.ListN.{length, getD, set, drop, length-drop}
 use lib.Seq.{drop-cons}
 use Rattle.table.specs.Slots.{paired, three}
-use Rattle.build.specs.Build.{SoFar, skip, grow, Step, refuse, go, known, repeated, taken, face, onStep, faces}
+use Rattle.build.specs.Build.{SoFar, skip, grow, Course, refuse, go, known, repeated, taken, face, onCourse, faces}
 use Rattle.builder_faces.specs.declared.Found.{Found}
 use Rattle.builder_faces.specs.Search.{sought, takenBy}
 use Rattle.builder_faces.specs.Steps.{soFar, stepped}
@@ -95,7 +95,7 @@ module _ (nv room : ℕ) (s : SoFar) (fs : List ℕ) (i : ℕ) where
   faces-end h = short (drop i fs) (rw length-drop h)
 
   pub faces-more : i + 2 < length fs
-      → faces nv room s (drop i fs) ≡ onStep (face nv room s (getD fs i 0) (getD fs (i + 1) 0) (getD fs (i + 2) 0)) (λ t. faces nv room t (drop (i + 3) fs))
+      → faces nv room s (drop i fs) ≡ onCourse (face nv room s (getD fs i 0) (getD fs (i + 1) 0) (getD fs (i + 2) 0)) (λ t. faces nv room t (drop (i + 3) fs))
   unfolding faces
   faces-more h = rw (three)
     where
@@ -111,14 +111,14 @@ module _ (nv room : ℕ) (s : SoFar) (fs : List ℕ) (i : ℕ) where
           at3 = let z : suc (i + 2) ≡ i + 3 = omega arith in drop-cons fs (i + 2) 0 (omega arith) ∙ ap (λ (n : ℕ). getD fs (i + 2) 0 ∷ drop n fs) z
 
   -- a face that was refused ends it, one that was not goes on
-  pub faces-stop : (t : Step) (a : ℕ) → t ≡ face nv room s (getD fs i 0) (getD fs (i + 1) 0) (getD fs (i + 2) 0) → i + 2 < length fs → (r : SoFar) → (a ≡ 0 → ⊥) → stepped a r ≡ t
+  pub faces-stop : (t : Course) (a : ℕ) → t ≡ face nv room s (getD fs i 0) (getD fs (i + 1) 0) (getD fs (i + 2) 0) → i + 2 < length fs → (r : SoFar) → (a ≡ 0 → ⊥) → stepped a r ≡ t
       → stepped a r ≡ faces nv room s (drop i fs)
   faces-stop t zero e h r n z = absurd (n refl)
-  faces-stop t (suc a) e h r n z = sym (faces-more h ∙ ap (λ (u : Step). onStep u (λ k. faces nv room k (drop (i + 3) fs))) (sym (z ∙ e)))
+  faces-stop t (suc a) e h r n z = sym (faces-more h ∙ ap (λ (u : Course). onCourse u (λ k. faces nv room k (drop (i + 3) fs))) (sym (z ∙ e)))
 
   pub faces-on : (a : ℕ) (r : SoFar) → stepped a r ≡ face nv room s (getD fs i 0) (getD fs (i + 1) 0) (getD fs (i + 2) 0) → i + 2 < length fs → a ≡ 0
       → faces nv room r (drop (i + 3) fs) ≡ faces nv room s (drop i fs)
-  faces-on zero r z h n = sym (faces-more h ∙ ap (λ (u : Step). onStep u (λ k. faces nv room k (drop (i + 3) fs))) (sym z))
+  faces-on zero r z h n = sym (faces-more h ∙ ap (λ (u : Course). onCourse u (λ k. faces nv room k (drop (i + 3) fs))) (sym z))
   faces-on (suc a) r z h n = absurd (omega arith)
 
 -- what the loop over faces keeps
@@ -151,7 +151,7 @@ record Counted (room : ℕ) (s t : SoFar) : Type 0 where
   thirds : t .nc % 3 ≡ 0
   skips : t .skipped ≤ s .skipped + 1
 
-abbrev OnGo : (SoFar → Type 0) → Step → Type 0
+abbrev OnGo : (SoFar → Type 0) → Course → Type 0
 OnGo P (refuse a) = Unit {0}
 OnGo P (go t) = P t
 
@@ -177,7 +177,7 @@ module _ (nv room : ℕ) (fs cv₀ co₀ vc₀ cv co vc : List ℕ) (i n k : ℕ
   counted : a ≡ 0 → Counted room (soFar cv co vc n k) (soFar cv′ co′ vc′ n′ k′)
   counted z =
       by a z
-      (subst (λ (t : Step). OnGo (Counted room (soFar cv co vc n k)) t) (sym f) (face-counted nv room (soFar cv co vc n k) _ _ _ (A .few) (A .thirds)))
+      (subst (λ (t : Course). OnGo (Counted room (soFar cv co vc n k)) t) (sym f) (face-counted nv room (soFar cv co vc n k) _ _ _ (A .few) (A .thirds)))
     where
       by : (x : ℕ) → x ≡ 0 → OnGo (Counted room (soFar cv co vc n k)) (stepped x (soFar cv′ co′ vc′ n′ k′))
           → Counted room (soFar cv co vc n k) (soFar cv′ co′ vc′ n′ k′)

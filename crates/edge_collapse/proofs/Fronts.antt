@@ -14,8 +14,8 @@ use Rattle.corner.specs.Corner.{next, previous}
 use Rattle.table.specs.Slots.{vertexAt, cornerAt}
 use Rattle.table.specs.Table.{Table, vertex}
 use Rattle.ring.specs.Ring.{Side, stop, more, side}
-use Rattle.edge_collapse.specs.EdgeCollapse.{counted, meetsBorder, neighbours, timesIn, commonIn, affectsBoundary, unsafe}
-use Rattle.edge_collapse.specs.Loops.{Gathered, Rings, Judges}
+use Rattle.edge_collapse.specs.EdgeCollapse.{howMany, meetsBorder, neighbours, timesIn, commonIn, affectsBoundary, unsafe}
+use Rattle.edge_collapse.specs.Loops.{Gathered, Rings, Hinders}
 use Rattle.edge_collapse.proofs.Loops.{home}
 
 -- ---- gathering
@@ -115,12 +115,12 @@ module _ (cv co : List ℕ) (n first : ℕ) where
 -- ---- counting at the front of a list
 
 module _ (test : ℕ → Bool) (l : List ℕ) (m : ℕ) where
-  counted-snoc : (k : List ℕ) (x : ℕ) → counted test (k ++ (x ∷ [])) ≡ counted test k + cond (test x) 1 0
+  counted-snoc : (k : List ℕ) (x : ℕ) → howMany test (k ++ (x ∷ [])) ≡ howMany test k + cond (test x) 1 0
   counted-snoc [] x = omega arith
   counted-snoc (y ∷ k) x = omega (arith, counted-snoc k x)
 
   pub record Tallied (times i : ℕ) : Type 0 where
-    pub is : times ≡ counted test (take i l)
+    pub is : times ≡ howMany test (take i l)
     pub bound : times ≤ i
     pub low : i ≤ m
 
@@ -130,22 +130,22 @@ module _ (test : ℕ → Bool) (l : List ℕ) (m : ℕ) where
   pub tallied-more : (times i one : ℕ) (b : Bool) → Tallied times i → i < m → m ≤ length l → b ≡ test (getD l i 0) → (one ≡ cond b 1 0) × (one ≤ 1)
       → Tallied (times + one) (i + 1)
   tallied-more times i one b T h r e o =
-      let q : counted test (take (i + 1) l) ≡ counted test (take i l) + cond (test (getD l i 0)) 1 0 =
-      ap (λ (k : ℕ). counted test (take k l)) (add-one i) ∙ ap (counted test) (take-suc l i 0 (omega (arith, h, r))) ∙ counted-snoc (take i l) (getD l i 0) in
+      let q : howMany test (take (i + 1) l) ≡ howMany test (take i l) + cond (test (getD l i 0)) 1 0 =
+      ap (λ (k : ℕ). howMany test (take k l)) (add-one i) ∙ ap (howMany test) (take-suc l i 0 (omega (arith, h, r))) ∙ counted-snoc (take i l) (getD l i 0) in
       let p : one ≡ cond (test (getD l i 0)) 1 0 = o .0 ∙ ap (λ (x : Bool). cond x 1 0) e in
       record { is = omega (arith, T .is, q, p); bound = omega (arith, T .bound, o .1); low = omega (arith, h) }
 
-  pub tallied-end : (times i : ℕ) → Tallied times i → m ≤ i → times ≡ counted test (take m l)
-  tallied-end times i T h = T .is ∙ ap (λ (k : ℕ). counted test (take k l)) (same (T .low) h)
+  pub tallied-end : (times i : ℕ) → Tallied times i → m ≤ i → times ≡ howMany test (take m l)
+  tallied-end times i T h = T .is ∙ ap (λ (k : ℕ). howMany test (take k l)) (same (T .low) h)
     where
       same : i ≤ m → m ≤ i → i ≡ m
       same p q = omega arith
 
-pub times-front : (l : List ℕ) (m x times : ℕ) → times ≡ counted (λ y. eqb y x) (take m l) → times ≡ timesIn (take m l) x
+pub times-front : (l : List ℕ) (m x times : ℕ) → times ≡ howMany (λ y. eqb y x) (take m l) → times ≡ timesIn (take m l) x
 unfolding timesIn
 times-front l m x times e = e
 
-pub common-front : (l : List ℕ) (m : ℕ) (kept : List ℕ) (times : ℕ) → times ≡ counted (λ x. ltb 0 (timesIn kept x)) (take m l) → times ≡ commonIn kept (take m l)
+pub common-front : (l : List ℕ) (m : ℕ) (kept : List ℕ) (times : ℕ) → times ≡ howMany (λ x. ltb 0 (timesIn kept x)) (take m l) → times ≡ commonIn kept (take m l)
 unfolding commonIn
 common-front l m kept times e = e
 
@@ -229,11 +229,11 @@ module _ (cv co : List ℕ) (n k l lost m w : ℕ) (near far : List ℕ) (A : Ga
 module _ (t : Table) (c kept lost : ℕ) (is : kept ≡ vertex t (next c)) (is′ : lost ≡ vertex t (previous c))
     (k l : ℕ) (at : k ≡ cornerAt (t .vertexCorner) kept) (at′ : l ≡ cornerAt (t .vertexCorner) lost)
     (r : ℕ) (R : Rings (t .cornerVertex) (t .cornerOpposite) (t .corners) k l lost r) where
-  pub judged-border : r ≡ 1 → Judges t c true false
+  pub judged-border : r ≡ 1 → Hinders t c true false
   unfolding affectsBoundary
   judged-border e = record { boundary = rw (← is, ← is′, ← at, ← at′) (sym (R .border e)); bad = λ z. absurd (false≢true (sym z)) }
 
-  pub judged-closed : (r ≡ 1 → ⊥) → r < 3 → Judges t c false (eqb r 2)
+  pub judged-closed : (r ≡ 1 → ⊥) → r < 3 → Hinders t c false (eqb r 2)
   unfolding affectsBoundary unsafe
   judged-closed ne lt =
       record { boundary = rw (← is, ← is′, ← at, ← at′) (sym (R .closed ne lt)); bad = λ z. rw (← is, ← is′, ← at, ← at′) (go (ℕ-discrete r 2)) }
@@ -244,5 +244,5 @@ module _ (t : Table) (c kept lost : ℕ) (is : kept ≡ vertex t (next c)) (is�
       go (yes e) = eq-eqb r 2 e ∙ sym (R .bad e)
       go (no e) = ne-eqb r 2 e ∙ sym (R .safe (omega (arith, e, ne, lt)))
 
-pub judged-apart : (t : Table) (c : ℕ) (b u : Bool) → b ≡ affectsBoundary t c → u ≡ unsafe t c → Judges t c b u
+pub judged-apart : (t : Table) (c : ℕ) (b u : Bool) → b ≡ affectsBoundary t c → u ≡ unsafe t c → Hinders t c b u
 judged-apart t c b u e f = record { boundary = e; bad = λ z. f }

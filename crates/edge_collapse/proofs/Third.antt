@@ -11,7 +11,7 @@ use Rattle.corner.specs.Corner.{absent, next, previous}
 use Rattle.corner.proofs.Turns.{next-next, next-previous, previous-next, previous-previous, next-face, previous-injective, in-face, InFace, itself, after, before}
 use Rattle.fan.specs.Visits.{Distinct}
 use Rattle.fan.proofs.Fan.{Linked, face-previous, right-live, right-vertex}
-use Rattle.edge_collapse.specs.EdgeCollapse.{counted}
+use Rattle.edge_collapse.specs.EdgeCollapse.{howMany}
 use Rattle.edge_collapse.specs.Paper.{ThirdFace}
 
 -- ---- the faces at an edge
@@ -110,7 +110,7 @@ pub record Some (g : ℕ → ℕ) (D : ℕ) (l : List ℕ) : Type 0 where
 
 module _ (g : ℕ → ℕ) (D : ℕ) where
   abbrev pub times : List ℕ → ℕ
-  times l = counted (λ x. eqb x D) (map g l)
+  times l = howMany (λ x. eqb x D) (map g l)
 
   hit : (x : ℕ) (l : List ℕ) → g x ≡ D → times (x ∷ l) ≡ 1 + times l
   hit x l e = rw (eq-eqb (g x) D e)
@@ -162,7 +162,7 @@ module _ {live : ℕ → Type 0} {opp vtx : ℕ → ℕ} (L : Linked live opp vt
     (closed : (d : ℕ) → live d → vtx d ≡ vtx (next c) → opp (previous d) ≢ absent)
     (ring : List ℕ) (once : Distinct ring) (from : (d : ℕ) → List·Memᴰ d ring → live d × (vtx d ≡ vtx (next c))) (to : (d : ℕ) → live d → vtx d ≡ vtx (next c) → List·Memᴰ d ring) where
   abbrev pub places : ℕ
-  places = counted (λ x. eqb x (vtx (previous c))) (map (λ d. vtx (previous d)) ring)
+  places = howMany (λ x. eqb x (vtx (previous c))) (map (λ d. vtx (previous d)) ring)
 
   pub third-twice : ThirdFace live opp vtx c → 1 < places
   third-twice f =

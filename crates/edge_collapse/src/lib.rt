@@ -13,7 +13,7 @@ ghost use Rattle.table.specs.Slots.{vertexAt};
 ghost use Rattle.table.specs.Table.{table};
 ghost use Rattle.ring.specs.Ring.{side};
 ghost use Rattle.edge_collapse.specs.EdgeCollapse.{meetsBorder, neighbours, timesIn, commonIn, affectsBoundary, unsafe};
-ghost use Rattle.edge_collapse.specs.Loops.{Counted, Gathered, Rings, Judges};
+ghost use Rattle.edge_collapse.specs.Loops.{HowMany, Gathered, Rings, Hinders};
 use corner::Corner;
 use flag::one_if;
 
@@ -42,7 +42,7 @@ fn meets_border(co: &[u32], n: u32, c0: Corner) -> bool
 
 // How often x occurs among the neighbours that the walk to the left from c0 passes after its first.
 fn times_side(x: u32, cv: &[u32], co: &[u32], c0: Corner, n: u32) -> u32
-    ensures { λ r. ⌜ Counted (λ y. eqb y x) (λ d. vertexAt (now (cv .entry)) (previous d)) (side true (now (co .entry)) (c0 .0) n (c0 .0)) n r ⌝ }
+    ensures { λ r. ⌜ HowMany (λ y. eqb y x) (λ d. vertexAt (now (cv .entry)) (previous d)) (side true (now (co .entry)) (c0 .0) n (c0 .0)) n r ⌝ }
 {
     let first = c0.previous_index();
     let mut via = c0.next_index();
@@ -83,7 +83,7 @@ fn occurs(x: u32, cv: &[u32], co: &[u32], n: u32, c: Corner) -> bool
 // How many neighbours that the walk to the left from c0 passes after its first occur in the ring from `kept`.
 fn common_side(kept: Corner, cv: &[u32], co: &[u32], c0: Corner, n: u32) -> u32
     requires { ⌜ n < absent ⌝ }
-    ensures { λ r. ⌜ Counted (λ x. ltb 0 (timesIn (neighbours (now (cv .entry)) (now (co .entry)) n (kept .0)) x)) (λ d. vertexAt (now (cv .entry))
+    ensures { λ r. ⌜ HowMany (λ x. ltb 0 (timesIn (neighbours (now (cv .entry)) (now (co .entry)) n (kept .0)) x)) (λ d. vertexAt (now (cv .entry))
         (previous d)) (side true (now (co .entry)) (c0 .0) n (c0 .0)) n r ⌝ }
 {
     let k = kept.0;
@@ -237,15 +237,15 @@ fn judge_rings(cv: &[u32], co: &[u32], n: u32, k: Corner, l: Corner, lost: u32) 
 }
 
 // What both tests say of an edge. `bad` tells only where `boundary` is false.
-pub struct Judged {
+pub struct Hindrance {
     pub boundary: bool,
     pub bad: bool,
 }
 
-pub fn judge(cv: &[u32], co: &[u32], vc: &[u32], n: u32, c: Corner) -> Judged
+pub fn judge(cv: &[u32], co: &[u32], vc: &[u32], n: u32, c: Corner) -> Hindrance
     requires { ⌜ n < absent ⌝ }
     ensures { λ r. ⌜ ((cm vm : List ℕ) (vp : List Float) (i : ℕ)
-        → Judges (table (now (cv .entry)) (now (co .entry)) cm (now (vc .entry)) vm vp i n) (c .0) (r .boundary) (r .bad)) ⌝ }
+        → Hinders (table (now (cv .entry)) (now (co .entry)) cm (now (vc .entry)) vm vp i n) (c .0) (r .boundary) (r .bad)) ⌝ }
 {
     let kept = table::at(cv, c.next_index(), 0);
     let lost = table::at(cv, c.previous_index(), 0);
@@ -253,20 +253,20 @@ pub fn judge(cv: &[u32], co: &[u32], vc: &[u32], n: u32, c: Corner) -> Judged
     let l = Corner(table::at(vc, lost as usize, 4294967295));
     let r = judge_rings(cv, co, n, k, l, lost);
     if r == 1 {
-        return Judged {
+        return Hindrance {
             boundary: true,
             bad: false,
         };
     }
     if r < 3 {
-        return Judged {
+        return Hindrance {
             boundary: false,
             bad: r == 2,
         };
     }
     let b = will_collapse_affect_boundary(cv, co, vc, n, c);
     let u = is_topologically_unsafe(cv, co, vc, n, c);
-    Judged {
+    Hindrance {
         boundary: b,
         bad: u,
     }

@@ -1,6 +1,6 @@
 -- What specs/Settled.antt promises: both outcomes are the definition's. Assumes nothing.
 use mathlib.Core.Path.{_≡_, sym, ap, _∙_}
-use Rattle.build.specs.Build.{Outcome, built}
+use Rattle.build.specs.Build.{BuildOutcome, built}
 use Rattle.traversal.specs.Ring.{Outcome as Walked, outcome}
 use Rattle.promises.specs.Settled.{CheckSettled, BuildSettled, RingSettled, MoveSettled}
 
@@ -10,7 +10,7 @@ check-settled t v w x y = x ∙ sym y
 pub build-settled : BuildSettled
 build-settled t points faces a b k m u v x y =
     let e : built a k u ≡ built b m v = x ∙ sym y in
-    (ap (λ (o : Outcome). o .answer) e, ap (λ (o : Outcome). o .skipped) e, ap (λ (o : Outcome). o .result) e)
+    (ap (λ (o : BuildOutcome). o .answer) e, ap (λ (o : BuildOutcome). o .skipped) e, ap (λ (o : BuildOutcome). o .result) e)
 
 pub ring-settled : RingSettled
 ring-settled kind v t list r q l m x y =

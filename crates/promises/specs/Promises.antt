@@ -31,7 +31,7 @@ use Rattle.command.specs.Decode.{commandAt}
 use Rattle.command.specs.Answers.{answer}
 use Rattle.command.specs.Step.{step}
 use Rattle.step.specs.Stepped.{Stepped}
-use Rattle.script.specs.Run.{commands, run, Outcome}
+use Rattle.script.specs.Run.{commands, run, RunOutcome}
 
 -- Demand 3, after every command: whatever the script and the answer words, after the first k commands the table is well-formed, V−E+F is what
 -- it was, and the lent parts have their lengths
@@ -58,7 +58,7 @@ pub record OneOutcome (a r p : ℕ) (l : List ℕ) (t : Table) (b q k : ℕ) (m 
 -- "any two outcomes allowed by it are equal": by the contract of a run, on any table, script and answer words
 abbrev pub Settled : Type 0
 Settled = (s answers : List ℕ) (t : Table) (a r slot : ℕ) (answers′ : List ℕ) (u : Table) (b q place : ℕ) (others : List ℕ) (v : Table)
-    → Outcome s answers t a r slot answers′ u → Outcome s answers t b q place others v → OneOutcome a r slot answers′ u b q place others v
+    → RunOutcome s answers t a r slot answers′ u → RunOutcome s answers t b q place others v → OneOutcome a r slot answers′ u b q place others v
 
 -- the same of one command
 abbrev pub StepSettled : Type 0

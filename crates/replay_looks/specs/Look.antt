@@ -13,8 +13,8 @@ use Rattle.walker.specs.Walker.{toNext, toPrevious, toOpposite, swungLeft, swun
 use Rattle.records.specs.Same.{holdsOf, holdNumbersOf}
 
 -- "7 ring: kind (0 corners, 1 vertices, 2 faces, 3 edges, 4 bounding edges)"
-unfoldable pub kindOf : ℕ → Kind
-kindOf k = cond (eqb k 0) Corners (cond (eqb k 1) Vertices (cond (eqb k 2) Faces (cond (eqb k 3) Edges BoundingEdges)))
+unfoldable pub ringKindOf : ℕ → Kind
+ringKindOf k = cond (eqb k 0) Corners (cond (eqb k 1) Vertices (cond (eqb k 2) Faces (cond (eqb k 3) Edges BoundingEdges)))
 
 -- "8 move: kind (0 next, 1 previous, 2 opposite, 3 swing left, 4 swing right), corner, answer, moved (0/1), corner after"
 unfoldable pub moveOf : ℕ → Table → ℕ → Moved

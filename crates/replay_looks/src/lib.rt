@@ -5,7 +5,7 @@ ghost use Prim.Native.Nat.{_≤_};
 ghost use Rattle.table.specs.Table.{table};
 ghost use Rattle.traversal.specs.Ring.{outcome, ringOf};
 ghost use Rattle.replay_looks.specs.Judge.{wordIs, twoAre, threeAre, builtAs, checkedAs, ranAs, ringedAs, bitOf, movedAs};
-ghost use Rattle.replay_looks.specs.Look.{kindOf, moveOf, nextPart, wholePart, partRight, pointsRight, cornersRight, verticesRight};
+ghost use Rattle.replay_looks.specs.Look.{ringKindOf, moveOf, nextPart, wholePart, partRight, pointsRight, cornersRight, verticesRight};
 use corner::Corner;
 use flag::both;
 use records::first;
@@ -126,7 +126,7 @@ fn ring_of(
     vertex: Vertex,
     list: &mut [u32],
 ) -> Ring
-    ensures { λ r. ⌜ outcome r (now (list .exit)) ≡ ringOf (kindOf kind) (vertex .0)
+    ensures { λ r. ⌜ outcome r (now (list .exit)) ≡ ringOf (ringKindOf kind) (vertex .0)
         (table (now (cv .entry)) (now (co .entry)) (now (cm .entry)) (now (vc .entry)) (now (vm .entry)) (now (vp .entry))
         (counts .vertices) (counts .corners)) (now (list .entry)) ⌝ }
 {

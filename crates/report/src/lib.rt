@@ -1,6 +1,6 @@
 // What is said of a patch: a line for what was built, for each refused command and for what came of the script; and the edits, said so.
 ghost use Rattle.table.specs.Table.{table};
-ghost use Rattle.script.specs.Run.{Outcome};
+ghost use Rattle.script.specs.Run.{RunOutcome};
 use libc::STDOUT_FILENO;
 use script::Ran;
 use table::Counts;
@@ -131,7 +131,7 @@ pub fn edit(
     answers: &mut [u32],
     n: u32,
 ) -> Ran
-    ensures { λ r. ⌜ Outcome (now (script .entry)) (now (answers .entry))
+    ensures { λ r. ⌜ RunOutcome (now (script .entry)) (now (answers .entry))
         (table (now (cv .entry)) (now (co .entry)) (now (cm .entry)) (now (vc .entry)) (now (vm .entry)) (now (vp .entry))
         (counts .vertices) (counts .corners))
         (r .answer) (r .rule) (r .slot) (now (answers .exit))

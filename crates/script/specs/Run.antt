@@ -56,6 +56,6 @@ pub record Completed (s : List ℕ) (n : ℕ) (answers answers′ : List ℕ) (t
   pub kept : Kept t u
 
 -- the contract of a run: what it leaves and answers is the definition's, and demand 3: the table is well-formed and V−E+F is what it was
-pub record Outcome (s answers : List ℕ) (t : Table) (a r slot : ℕ) (answers′ : List ℕ) (u : Table) : Type 0 where
+pub record RunOutcome (s answers : List ℕ) (t : Table) (a r slot : ℕ) (answers′ : List ℕ) (u : Table) : Type 0 where
   pub settled : whole a r slot (progress answers′ u) ≡ run t s answers
   pub kept : a ≡ 0 → Kept t u

@@ -4,7 +4,7 @@ ghost use Prim.Native.Nat.{_+_, _*_, _<_, _≤_};
 ghost use lib.ListN.{length};
 ghost use Rattle.table.specs.Table.{table};
 ghost use Rattle.step.specs.Stepped.{Good};
-ghost use Rattle.script.specs.Run.{Completed, Outcome, fits as fitsOf};
+ghost use Rattle.script.specs.Run.{Completed, RunOutcome, fits as fitsOf};
 use table::Counts;
 
 // n commands, one answer word each.
@@ -80,7 +80,7 @@ pub fn run(
     script: &[u32],
     answers: &mut [u32],
 ) -> Ran
-    ensures { λ r. ⌜ Outcome (now (script .entry)) (now (answers .entry))
+    ensures { λ r. ⌜ RunOutcome (now (script .entry)) (now (answers .entry))
         (table (now (cv .entry)) (now (co .entry)) (now (cm .entry)) (now (vc .entry)) (now (vm .entry)) (now (vp .entry))
         (counts .vertices) (counts .corners))
         (r .answer) (r .rule) (r .slot) (now (answers .exit))

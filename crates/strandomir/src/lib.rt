@@ -8,7 +8,7 @@ ghost use mathlib.Core.Bool.{cond};
 ghost use Rattle.table.specs.Table.{table};
 ghost use Rattle.build.specs.Build.{built, build as buildOf};
 ghost use Rattle.checker.specs.Order.{verdictOf};
-ghost use Rattle.script.specs.Run.{Outcome};
+ghost use Rattle.script.specs.Run.{RunOutcome};
 ghost use Rattle.traversal.specs.Ring.{ringOf};
 ghost use Rattle.traversal.specs.declared.Kind.the-variants.{Corners, Vertices, Faces, Edges, BoundingEdges};
 ghost use Rattle.walker.specs.Walker.{toNext, toPrevious, toOpposite, swungLeft, swungRight};
@@ -138,7 +138,7 @@ pub extern "C" fn strandomir_run(
     script: &[u32],
     answers: &mut [u32],
 ) -> Ran
-    ensures { λ r. ⌜ Outcome (now (script .entry)) (now (answers .entry))
+    ensures { λ r. ⌜ RunOutcome (now (script .entry)) (now (answers .entry))
         (table (now (cv .entry)) (now (co .entry)) (now (cm .entry)) (now (vc .entry)) (now (vm .entry)) (now (vp .entry)) vertices corners)
         (r .answer) (r .rule) (r .slot) (now (answers .exit))
         (table (now (cv .exit)) (now (co .exit)) (now (cm .exit)) (now (vc .exit)) (now (vm .exit)) (now (vp .exit)) (r .vertices) (r .corners)) ⌝ }
