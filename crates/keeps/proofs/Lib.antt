@@ -3,6 +3,7 @@ pub mod SplitFace
 pub mod Collapse
 pub mod Flip
 pub mod SplitInner
+pub mod Seats
 pub mod SplitBorder
 pub mod Count
 pub mod Writes

@@ -8,8 +8,9 @@ use Rattle.corner.specs.Corner.{next, previous}
 use Rattle.corner.proofs.Turns.{next-previous, previous-next}
 use Rattle.corner.specs.Corner.{absent}
 use Rattle.table.specs.Rules.{Mate}
-use Rattle.fan.proofs.Fan.{Left, Conn, stay, fore, conn-trans, conn-sym, conn-eq, simulate, Linked, OneFan, mate-sym, mate-at, linked, face-previous, opp-of}
+use Rattle.fan.proofs.Fan.{Left, Conn, stay, fore, conn-trans, conn-sym, conn-eq, Linked, OneFan, mate-sym, mate-at, linked, face-previous, opp-of}
 use Rattle.keeps.proofs.SplitFace.{Face3}
+use Rattle.keeps.proofs.Seats.{Seat, moved-fan}
 use Rattle.fan.proofs.Redirect.{at, at-same, at-other}
 
 -- what a border edge split reads and writes. Face c1 c2 c0; new: c3 c4 c5, vertex u
@@ -216,52 +217,21 @@ module _ {live live′ : ℕ → Type 0} {opp opp′ vtx vtx′ : ℕ → ℕ} {
       go (no a) (no o) =
           rw (φ-off d (not2 a), r) (hop d (next d) (opp (next d)) e (C .grow d (s .from)) refl (C .rest (next d) x a o) (C .grow (opp (next d)) (L .over (next d) x t)) l)
 
-  record Beside (d : ℕ) : Type 0 where
-    o : ℕ
-    lives : live o
-    new : vtx o ≡ vtx c2 → vtx′ d ≡ u
-    kept : vtx o ≢ vtx c2 → vtx′ d ≡ vtx o
-    near : Conn (Left live′ opp′) d (φ o)
+  abbrev Place : ℕ → Type 0
+  Place = Seat live live′ opp′ vtx vtx′ c2 u φ
 
-  Seat : ℕ → Type 0
-  Seat d = ((vtx′ d ≡ vtx c2) × Conn (Left live′ opp′) d c2) ⊎ Beside d
-
-  seat : (d : ℕ) → live′ d → Seat d
-  unfolding Seat
-  seat = each Seat old
+  seat : (d : ℕ) → live′ d → Place d
+  seat = each Place old
       (inr (record { o = c1; lives = C .alive; new = λ z. absurd (d12 z); kept = λ z. C .w3; near = rw at1 h31 }))
       (inr (record { o = c2; lives = l2; new = λ z. C .w4; kept = λ n. absurd (n refl); near = rw φ2 stay }))
       (inl (C .w5, conn-sym (hop c2 c0 c4 c5 (C .grow c2 l2) (C .f .n1) (C .n0) (C .l4) (C .g .n1))))
     where
-      old : (d : ℕ) → live d → Seat d
+      old : (d : ℕ) → live d → Place d
       old d h = go (ℕ-discrete d c2)
         where
-          go : Dec (d ≡ c2) → Seat d
+          go : Dec (d ≡ c2) → Place d
           go (yes e) = inl (ap vtx′ e ∙ C .w2, conn-eq e)
           go (no n) = inr (record { o = d; lives = h; new = C .wu d h n; kept = C .wr d h; near = conn-eq (sym (φ-off d n)) })
 
   pub rim-fan : OneFan live opp vtx → OneFan live′ opp′ vtx′
-  unfolding OneFan Seat
-  rim-fan F d e h k z = go (seat d h) (seat e k)
-    where
-      clash : (x y : ℕ) → vtx′ x ≡ vtx c2 → Beside y → vtx′ x ≢ vtx′ y
-      clash x y a b s = at′ (ℕ-discrete (vtx (b .o)) (vtx c2))
-        where
-          at′ : Dec (vtx (b .o) ≡ vtx c2) → ⊥
-          at′ (yes q) = C .fresh c2 l2 (cc (b .new q))
-          at′ (no q) = q (cc (b .kept q))
-
-      join : (a : Beside d) (b : Beside e) → vtx (a .o) ≡ vtx (b .o) → Conn (Left live′ opp′) d e
-      join a b q = conn-trans (a .near) (conn-trans (simulate φ step (F (a .o) (b .o) (a .lives) (b .lives) q)) (conn-sym (b .near)))
-
-      both : (a : Beside d) (b : Beside e) → Dec (vtx (a .o) ≡ vtx c2) → Dec (vtx (b .o) ≡ vtx c2) → Conn (Left live′ opp′) d e
-      both a b (yes p) (yes q) = join a b (p ∙ sym q)
-      both a b (yes p) (no q) = absurd (C .fresh (b .o) (b .lives) (cc (a .new p, b .kept q)))
-      both a b (no p) (yes q) = absurd (C .fresh (a .o) (a .lives) (cc (a .kept p, b .new q)))
-      both a b (no p) (no q) = join a b (cc (a .kept p, b .kept q))
-
-      go : Seat d → Seat e → Conn (Left live′ opp′) d e
-      go (inl a) (inl b) = conn-trans (a .1) (conn-sym (b .1))
-      go (inl a) (inr b) = absurd (clash d e (a .0) b z)
-      go (inr a) (inl b) = absurd (clash e d (b .0) a (sym z))
-      go (inr a) (inr b) = both a b (ℕ-discrete (vtx (a .o)) (vtx c2)) (ℕ-discrete (vtx (b .o)) (vtx c2))
+  rim-fan = moved-fan live live′ opp′ vtx vtx′ c2 u φ opp l2 (C .fresh) step seat

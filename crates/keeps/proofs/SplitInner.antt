@@ -8,8 +8,9 @@ use Rattle.corner.specs.Corner.{next, previous}
 use Rattle.corner.proofs.Turns.{next-previous, previous-next}
 use Rattle.corner.specs.Corner.{absent}
 use Rattle.table.specs.Rules.{Mate}
-use Rattle.fan.proofs.Fan.{Left, Conn, stay, fore, conn-trans, conn-sym, conn-eq, simulate, Linked, OneFan, mate-sym, mate-at, linked, face-previous, opp-not-self, opp-not-next, opp-of}
+use Rattle.fan.proofs.Fan.{Left, Conn, stay, fore, conn-trans, conn-sym, conn-eq, Linked, OneFan, mate-sym, mate-at, linked, face-previous, opp-not-self, opp-not-next, opp-of}
 use Rattle.keeps.proofs.SplitFace.{Face3}
+use Rattle.keeps.proofs.Seats.{Seat, moved-fan}
 use Rattle.fan.proofs.Redirect.{at, at-same, at-other}
 
 -- six numbers in a row
@@ -447,23 +448,14 @@ module _ {live : ℕ → Type 0} {opp vtx : ℕ → ℕ} {c1 c2 c0 c4 c5 c3 : �
             let r : φ e ≡ e = φ-off e (rw (← l) (next-not2 (opp (next d)) m)) (rw (← l) (next-not3 (opp (next d)) q)) in
             rw (p, r) (hop d (next d) (opp (next d)) e (C .grow d (s .from)) refl (C .rest (next d) x a b o q) (C .grow (opp (next d)) (L .over (next d) x t)) l)
 
-    -- where a corner of the new table stands: about the moved vertex, or beside the image of an old corner
-    record Beside (d : ℕ) : Type 0 where
-      o : ℕ
-      lives : live o
-      new : vtx o ≡ vtx c2 → vtx′ d ≡ u
-      kept : vtx o ≢ vtx c2 → vtx′ d ≡ vtx o
-      near : Conn (Left live′ opp′) d (φ o)
-
-    Seat : ℕ → Type 0
-    Seat d = ((vtx′ d ≡ vtx c2) × Conn (Left live′ opp′) d c2) ⊎ Beside d
-
     h32 : Conn (Left live′ opp′) c3 c2
     h32 = hop c3 c4 c1 c2 (C .grow c3 l3) (A .g .n2) o4′ (C .grow c1 (A .alive)) (A .f .n0)
 
-    seat : (d : ℕ) → live′ d → Seat d
-    unfolding Seat
-    seat = each Seat old
+    abbrev Place : ℕ → Type 0
+    Place = Seat live live′ opp′ vtx vtx′ c2 u φ
+
+    seat : (d : ℕ) → live′ d → Place d
+    seat = each Place old
         (inr (record {
           o = c1;
           lives = A .alive;
@@ -483,37 +475,13 @@ module _ {live : ℕ → Type 0} {opp vtx : ℕ → ℕ} {c1 c2 c0 c4 c5 c3 : �
         }))
         (inl (C .w11, conn-trans (hop c11 c9 c5 c3 (C .l11) (C .k .n2) (C .n9) (C .grow c5 l5) (A .g .n1)) h32))
       where
-        old : (d : ℕ) → live d → Seat d
+        old : (d : ℕ) → live d → Place d
         old d h = go (ℕ-discrete d c2) (ℕ-discrete d c3)
           where
-            go : Dec (d ≡ c2) → Dec (d ≡ c3) → Seat d
+            go : Dec (d ≡ c2) → Dec (d ≡ c3) → Place d
             go (yes e) q = inl (ap vtx′ e ∙ C .w2, conn-eq e)
             go (no n) (yes e) = inl (ap vtx′ e ∙ C .w3, rw e h32)
             go (no n) (no m) = inr (record { o = d; lives = h; new = C .wu d h n m; kept = C .wr d h; near = conn-eq (sym (φ-off d n m)) })
 
     pub split-fan : OneFan live opp vtx → OneFan live′ opp′ vtx′
-    unfolding OneFan Seat
-    split-fan F d e h k z = go (seat d h) (seat e k)
-      where
-        -- the moved vertex's number is no old corner's now
-        clash : (x y : ℕ) → vtx′ x ≡ vtx c2 → Beside y → vtx′ x ≢ vtx′ y
-        clash x y a b s = at′ (ℕ-discrete (vtx (b .o)) (vtx c2))
-          where
-            at′ : Dec (vtx (b .o) ≡ vtx c2) → ⊥
-            at′ (yes q) = C .fresh c2 l2 (cc (b .new q))
-            at′ (no q) = q (cc (b .kept q))
-
-        join : (a : Beside d) (b : Beside e) → vtx (a .o) ≡ vtx (b .o) → Conn (Left live′ opp′) d e
-        join a b q = conn-trans (a .near) (conn-trans (simulate φ step (F (a .o) (b .o) (a .lives) (b .lives) q)) (conn-sym (b .near)))
-
-        both : (a : Beside d) (b : Beside e) → Dec (vtx (a .o) ≡ vtx c2) → Dec (vtx (b .o) ≡ vtx c2) → Conn (Left live′ opp′) d e
-        both a b (yes p) (yes q) = join a b (p ∙ sym q)
-        both a b (yes p) (no q) = absurd (C .fresh (b .o) (b .lives) (cc (a .new p, b .kept q)))
-        both a b (no p) (yes q) = absurd (C .fresh (a .o) (a .lives) (cc (a .kept p, b .new q)))
-        both a b (no p) (no q) = join a b (cc (a .kept p, b .kept q))
-
-        go : Seat d → Seat e → Conn (Left live′ opp′) d e
-        go (inl a) (inl b) = conn-trans (a .1) (conn-sym (b .1))
-        go (inl a) (inr b) = absurd (clash d e (a .0) b z)
-        go (inr a) (inl b) = absurd (clash e d (b .0) a (sym z))
-        go (inr a) (inr b) = both a b (ℕ-discrete (vtx (a .o)) (vtx c2)) (ℕ-discrete (vtx (b .o)) (vtx c2))
+    split-fan = moved-fan live live′ opp′ vtx vtx′ c2 u φ opp l2 (C .fresh) step seat
