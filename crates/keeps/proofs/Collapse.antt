@@ -19,12 +19,12 @@ turned h z = h (sym z)
 
 -- the corners of the two faces that go
 pub data Six (c24 c25 c26 c9 c10 c11 d : ℕ) : Type 0 where
-  is24 : d ≡ c24 → Six c24 c25 c26 c9 c10 c11 d
-  is25 : d ≡ c25 → Six c24 c25 c26 c9 c10 c11 d
-  is26 : d ≡ c26 → Six c24 c25 c26 c9 c10 c11 d
-  is9 : d ≡ c9 → Six c24 c25 c26 c9 c10 c11 d
-  is10 : d ≡ c10 → Six c24 c25 c26 c9 c10 c11 d
-  is11 : d ≡ c11 → Six c24 c25 c26 c9 c10 c11 d
+  is1 : d ≡ c24 → Six c24 c25 c26 c9 c10 c11 d
+  is2 : d ≡ c25 → Six c24 c25 c26 c9 c10 c11 d
+  is0 : d ≡ c26 → Six c24 c25 c26 c9 c10 c11 d
+  is4 : d ≡ c9 → Six c24 c25 c26 c9 c10 c11 d
+  is5 : d ≡ c10 → Six c24 c25 c26 c9 c10 c11 d
+  is3 : d ≡ c11 → Six c24 c25 c26 c9 c10 c11 d
 
 pub six? : (c24 c25 c26 c9 c10 c11 d : ℕ) → Dec (Six c24 c25 c26 c9 c10 c11 d)
 six? c24 c25 c26 c9 c10 c11 d = go (ℕ-discrete d c24) (ℕ-discrete d c25) (ℕ-discrete d c26) (ℕ-discrete d c9) (ℕ-discrete d c10) (ℕ-discrete d c11)
@@ -33,20 +33,20 @@ six? c24 c25 c26 c9 c10 c11 d = go (ℕ-discrete d c24) (ℕ-discrete d c25) (�
     S = Six c24 c25 c26 c9 c10 c11 d
 
     none : d ≢ c24 → d ≢ c25 → d ≢ c26 → d ≢ c9 → d ≢ c10 → d ≢ c11 → Six c24 c25 c26 c9 c10 c11 d → ⊥
-    none a b c e f g (is24 h) = a h
-    none a b c e f g (is25 h) = b h
-    none a b c e f g (is26 h) = c h
-    none a b c e f g (is9 h) = e h
-    none a b c e f g (is10 h) = f h
-    none a b c e f g (is11 h) = g h
+    none a b c e f g (is1 h) = a h
+    none a b c e f g (is2 h) = b h
+    none a b c e f g (is0 h) = c h
+    none a b c e f g (is4 h) = e h
+    none a b c e f g (is5 h) = f h
+    none a b c e f g (is3 h) = g h
 
     go : Dec (d ≡ c24) → Dec (d ≡ c25) → Dec (d ≡ c26) → Dec (d ≡ c9) → Dec (d ≡ c10) → Dec (d ≡ c11) → Dec (Six c24 c25 c26 c9 c10 c11 d)
-    go (yes h) q r s t u = yes (is24 h)
-    go (no a) (yes h) r s t u = yes (is25 h)
-    go (no a) (no b) (yes h) s t u = yes (is26 h)
-    go (no a) (no b) (no c) (yes h) t u = yes (is9 h)
-    go (no a) (no b) (no c) (no e) (yes h) u = yes (is10 h)
-    go (no a) (no b) (no c) (no e) (no f) (yes h) = yes (is11 h)
+    go (yes h) q r s t u = yes (is1 h)
+    go (no a) (yes h) r s t u = yes (is2 h)
+    go (no a) (no b) (yes h) s t u = yes (is0 h)
+    go (no a) (no b) (no c) (yes h) t u = yes (is4 h)
+    go (no a) (no b) (no c) (no e) (yes h) u = yes (is5 h)
+    go (no a) (no b) (no c) (no e) (no f) (yes h) = yes (is3 h)
     go (no a) (no b) (no c) (no e) (no f) (no g) = no (none a b c e f g)
 
 -- where a collapse is done, as document 01 and edit.rs have it
@@ -214,12 +214,12 @@ module _ {live : ℕ → Type 0} {opp vtx : ℕ → ℕ} {c24 c25 c26 c9 c10 c11
   x26-11 z = d89 (cc (e8))
 
   pub six-next : (d : ℕ) → S d → S (next d)
-  six-next d (is24 h) = is25 (cc)
-  six-next d (is25 h) = is26 (cc)
-  six-next d (is26 h) = is24 (cc)
-  six-next d (is9 h) = is10 (cc)
-  six-next d (is10 h) = is11 (cc)
-  six-next d (is11 h) = is9 (cc)
+  six-next d (is1 h) = is2 (cc)
+  six-next d (is2 h) = is0 (cc)
+  six-next d (is0 h) = is1 (cc)
+  six-next d (is4 h) = is5 (cc)
+  six-next d (is5 h) = is3 (cc)
+  six-next d (is3 h) = is4 (cc)
 
   pub off-next : (d : ℕ) → ¬ S d → ¬ S (next d)
   off-next d n s = n (subst S (previous-next d) (six-previous (next d) s))
@@ -232,36 +232,36 @@ module _ {live : ℕ → Type 0} {opp vtx : ℕ → ℕ} {c24 c25 c26 c9 c10 c11
 
   -- the wings' outer corners stay
   pub s21 : ¬ S c21
-  s21 (is24 h) = x25-9 (cc (b21))
-  s21 (is25 h) = opp-not-self L c25 l25 t25 (cc)
-  s21 (is26 h) = opp-not-next L c25 l25 t25 (cc)
-  s21 (is9 h) = x24-25 (cc (b21, b9))
-  s21 (is10 h) = d78 (cc (L .tail c25 l25 t25, e8))
-  s21 (is11 h) = A .wings (cc (L .tail c25 l25 t25))
+  s21 (is1 h) = x25-9 (cc (b21))
+  s21 (is2 h) = opp-not-self L c25 l25 t25 (cc)
+  s21 (is0 h) = opp-not-next L c25 l25 t25 (cc)
+  s21 (is4 h) = x24-25 (cc (b21, b9))
+  s21 (is5 h) = d78 (cc (L .tail c25 l25 t25, e8))
+  s21 (is3 h) = A .wings (cc (L .tail c25 l25 t25))
 
   pub s28 : ¬ S c28
-  s28 (is24 h) = x26-9 (cc (b28))
-  s28 (is25 h) = opp-not-previous L c26 l26 t26 (cc)
-  s28 (is26 h) = opp-not-self L c26 l26 t26 (cc)
-  s28 (is9 h) = x26-24 (cc (b28, b9))
-  s28 (is10 h) = A .wings (cc (L .head c26 l26 t26))
-  s28 (is11 h) = d38 (cc (L .tail c26 l26 t26, e8))
+  s28 (is1 h) = x26-9 (cc (b28))
+  s28 (is2 h) = opp-not-previous L c26 l26 t26 (cc)
+  s28 (is0 h) = opp-not-self L c26 l26 t26 (cc)
+  s28 (is4 h) = x26-24 (cc (b28, b9))
+  s28 (is5 h) = A .wings (cc (L .head c26 l26 t26))
+  s28 (is3 h) = d38 (cc (L .tail c26 l26 t26, e8))
 
   pub s6 : ¬ S c6
-  s6 (is24 h) = x9-10 (cc (b6))
-  s6 (is25 h) = s21 (is10 (cc (b6)))
-  s6 (is26 h) = s28 (is10 (cc (b6)))
-  s6 (is9 h) = x24-10 (cc (b6, b9))
-  s6 (is10 h) = opp-not-self L c10 l10 t10 (cc)
-  s6 (is11 h) = opp-not-next L c10 l10 t10 (cc)
+  s6 (is1 h) = x9-10 (cc (b6))
+  s6 (is2 h) = s21 (is5 (cc (b6)))
+  s6 (is0 h) = s28 (is5 (cc (b6)))
+  s6 (is4 h) = x24-10 (cc (b6, b9))
+  s6 (is5 h) = opp-not-self L c10 l10 t10 (cc)
+  s6 (is3 h) = opp-not-next L c10 l10 t10 (cc)
 
   pub s13 : ¬ S c13
-  s13 (is24 h) = x11-9 (cc (b13))
-  s13 (is25 h) = s21 (is11 (cc (b13)))
-  s13 (is26 h) = s28 (is11 (cc (b13)))
-  s13 (is9 h) = x24-11 (cc (b13, b9))
-  s13 (is10 h) = opp-not-previous L c11 l11 t11 (cc)
-  s13 (is11 h) = opp-not-self L c11 l11 t11 (cc)
+  s13 (is1 h) = x11-9 (cc (b13))
+  s13 (is2 h) = s21 (is3 (cc (b13)))
+  s13 (is0 h) = s28 (is3 (cc (b13)))
+  s13 (is4 h) = x24-11 (cc (b13, b9))
+  s13 (is5 h) = opp-not-previous L c11 l11 t11 (cc)
+  s13 (is3 h) = opp-not-self L c11 l11 t11 (cc)
 
   module _ {live′ : ℕ → Type 0} {opp′ vtx′ : ℕ → ℕ} (C : Merge live live′ opp opp′ vtx vtx′ c24 c25 c26 c9 c10 c11 c21 c28 c6 c13) where
     k21 : live′ c21
@@ -304,12 +304,12 @@ module _ {live : ℕ → Type 0} {opp vtx : ℕ → ℕ} {c24 c25 c26 c9 c10 c11
         go (no a) (no b) (no c) (no e) = else (C .rest d h a b c e) stays back′
           where
             off : opp d ≢ absent → ¬ S (opp d)
-            off t (is24 z) = C .gone d h (is9 (cc (L .pair d k t)))
-            off t (is25 z) = b (cc (L .pair d k t))
-            off t (is26 z) = a (cc (L .pair d k t))
-            off t (is9 z) = C .gone d h (is24 (cc (L .pair d k t, b9)))
-            off t (is10 z) = c (cc (L .pair d k t))
-            off t (is11 z) = e (cc (L .pair d k t))
+            off t (is1 z) = C .gone d h (is4 (cc (L .pair d k t)))
+            off t (is2 z) = b (cc (L .pair d k t))
+            off t (is0 z) = a (cc (L .pair d k t))
+            off t (is4 z) = C .gone d h (is1 (cc (L .pair d k t, b9)))
+            off t (is5 z) = c (cc (L .pair d k t))
+            off t (is3 z) = e (cc (L .pair d k t))
 
             stays : opp d ≢ absent → live′ (opp d)
             stays t = C .keep (opp d) (L .over d k t) (off t)
@@ -317,7 +317,7 @@ module _ {live : ℕ → Type 0} {opp vtx : ℕ → ℕ} {c24 c25 c26 c9 c10 c11
             back′ : opp d ≢ absent → opp′ (opp d) ≡ d
             back′ t =
                 let q : opp (opp d) ≡ d = L .pair d k t in
-                C .rest (opp d) (stays t) (λ z. C .gone d h (is26 (cc (b28)))) (λ z. C .gone d h (is25 (cc (b21)))) (λ z. C .gone d h (is10 (cc (b6)))) (λ z. C .gone d h (is11 (cc (b13)))) ∙ q
+                C .rest (opp d) (stays t) (λ z. C .gone d h (is0 (cc (b28)))) (λ z. C .gone d h (is2 (cc (b21)))) (λ z. C .gone d h (is5 (cc (b6)))) (λ z. C .gone d h (is3 (cc (b13)))) ∙ q
 
     -- equal old vertices are equal new ones
     merged : (d e : ℕ) → live′ d → live′ e → vtx d ≡ vtx e → vtx′ d ≡ vtx′ e
@@ -392,10 +392,10 @@ module _ {live : ℕ → Type 0} {opp vtx : ℕ → ℕ} {c24 c25 c26 c9 c10 c11
         bad s = C .gone (next (opp (next d))) k (six-next (opp (next d)) s)
 
         go : Four (next d) → Conn (Left live′ opp′) d (next (opp (next d)))
-        go (at28 e) = absurd (bad (is26 (cc (b28))))
-        go (at21 e) = absurd (bad (is25 (cc (b21))))
-        go (at6 e) = absurd (bad (is10 (cc (b6))))
-        go (at13 e) = absurd (bad (is11 (cc (b13))))
+        go (at28 e) = absurd (bad (is0 (cc (b28))))
+        go (at21 e) = absurd (bad (is2 (cc (b21))))
+        go (at6 e) = absurd (bad (is5 (cc (b6))))
+        go (at13 e) = absurd (bad (is3 (cc (b13))))
         go (else o y b) = hop d (next d) (opp (next d)) (next (opp (next d))) h refl o (y t) refl
 
     module _ (n : ℕ) (below : (d : ℕ) → live d → d < n) where
@@ -443,12 +443,12 @@ module _ {live : ℕ → Type 0} {opp vtx : ℕ → ℕ} {c24 c25 c26 c9 c10 c11
           v = r9 i (omega arith)
 
           off : S (r i) → ⊥
-          off (is24 z) = d97 (cc v)
-          off (is25 z) = d89 (cc v)
-          off (is26 z) = ring .apart i (ring .last) b (omega arith) (z ∙ sym r-last)
-          off (is9 z) = d39 (cc (e9, v))
-          off (is10 z) = ring .apart 0 i a (omega arith) (sym z)
-          off (is11 z) = d89 (cc (e8, v))
+          off (is1 z) = d97 (cc v)
+          off (is2 z) = d89 (cc v)
+          off (is0 z) = ring .apart i (ring .last) b (omega arith) (z ∙ sym r-last)
+          off (is4 z) = d39 (cc (e9, v))
+          off (is5 z) = ring .apart 0 i a (omega arith) (sym z)
+          off (is3 z) = d89 (cc (e8, v))
 
       r-path : (i : ℕ) → suc i < ring .last → Conn (Left live′ opp′) (next c13) (r (suc i))
       unfolding r
@@ -463,7 +463,7 @@ module _ {live : ℕ → Type 0} {opp vtx : ℕ → ℕ} {c24 c25 c26 c9 c10 c11
         where
           go : (m : ℕ) → ring .last ≡ m → Conn (Left live′ opp′) (next c13) (previous c21)
           go zero e = absurd (x26-10 (sym (rw e at r-last)))
-          go (suc zero) e = absurd (off-next c13 s13 (is26 (sym r-one ∙ (rw e at r-last))))
+          go (suc zero) e = absurd (off-next c13 s13 (is0 (sym r-one ∙ (rw e at r-last))))
           go (suc (suc m)) e =
               let x : ℕ = r (suc m) in
               let h : live x = ring .lives (suc m) (omega arith) in
@@ -502,12 +502,12 @@ module _ {live : ℕ → Type 0} {opp vtx : ℕ → ℕ} {c24 c25 c26 c9 c10 c11
       φ-kept : (d : ℕ) → live′ d → φ d ≡ d
       unfolding φ
       φ-kept d h =
-          let a : d ≢ c24 = λ z. C .gone d h (is24 z) in
-          let b : d ≢ c25 = λ z. C .gone d h (is25 z) in
-          let c : d ≢ c26 = λ z. C .gone d h (is26 z) in
-          let e : d ≢ c9 = λ z. C .gone d h (is9 z) in
-          let f : d ≢ c10 = λ z. C .gone d h (is10 z) in
-          let g : d ≢ c11 = λ z. C .gone d h (is11 z) in
+          let a : d ≢ c24 = λ z. C .gone d h (is1 z) in
+          let b : d ≢ c25 = λ z. C .gone d h (is2 z) in
+          let c : d ≢ c26 = λ z. C .gone d h (is0 z) in
+          let e : d ≢ c9 = λ z. C .gone d h (is4 z) in
+          let f : d ≢ c10 = λ z. C .gone d h (is5 z) in
+          let g : d ≢ c11 = λ z. C .gone d h (is3 z) in
           simp at-other
 
       -- the two new steps about the kept vertex
@@ -527,22 +527,22 @@ module _ {live : ℕ → Type 0} {opp vtx : ℕ → ℕ} {c24 c25 c26 c9 c10 c11
           l = s .lands
 
           go : Dec (S d) → Conn (Left live′ opp′) (φ d) (φ e)
-          go (yes (is24 h)) =
+          go (yes (is1 h)) =
               let ee : e ≡ next c21 = cc l in
               rw (h, φ24, ee, φ-kept (next c21) (keep-next c21 k21)) (hop (previous c28) c28 c21 (next c21) (keep-previous c28 k28) (next-previous c28) (C .n28) k21 refl)
-          go (yes (is25 h)) =
+          go (yes (is2 h)) =
               let ee : e ≡ next c28 = cc l in
               rw (h, φ25, ee, φ-kept (next c28) (keep-next c28 k28)) stay
-          go (yes (is26 h)) =
+          go (yes (is0 h)) =
               let ee : e ≡ c10 = cc l in
               rw (h, φ26, ee, φ10) (conn-sym turn)
-          go (yes (is9 h)) =
+          go (yes (is4 h)) =
               let ee : e ≡ next c6 = cc l in
               rw (h, φ9, ee, φ-kept (next c6) (keep-next c6 k6)) (hop (previous c13) c13 c6 (next c6) (keep-previous c13 k13) (next-previous c13) (C .n13) k6 refl)
-          go (yes (is10 h)) =
+          go (yes (is5 h)) =
               let ee : e ≡ next c13 = cc l in
               rw (h, φ10, ee, φ-kept (next c13) (keep-next c13 k13)) stay
-          go (yes (is11 h)) =
+          go (yes (is3 h)) =
               let ee : e ≡ c25 = cc (l, b9) in
               rw (h, φ11, ee, φ25) (conn-trans join′ (conn-trans turn join))
           go (no h) = out (four (next d) (keep-next d k))

@@ -13,7 +13,7 @@ use Rattle.corner.proofs.Turns.{next-below}
 use Rattle.corner.specs.Corner.{absent}
 use Rattle.fan.proofs.Fan.{Linked, face-previous}
 use Rattle.keeps.proofs.SplitFace.{face3}
-use Rattle.keeps.proofs.Collapse.{MergeSite, Merge, Six, is24, is25, is26, is9, is10, is11, six?, six-next, off-next, off-previous, collapse-linked, collapse-fan, l25, l26, l10, l11, l21, l28, l6, l13, s28, s6, s13, b21, b28, b6, b13, t26, t10, t11, e8, e9, d89, x25-26, x10-11, x26-10, x26-11, x25-10, x25-11}
+use Rattle.keeps.proofs.Collapse.{MergeSite, Merge, Six, is1, is2, is0, is4, is5, is3, six?, six-next, off-next, off-previous, collapse-linked, collapse-fan, l25, l26, l10, l11, l21, l28, l6, l13, s28, s6, s13, b21, b28, b6, b13, t26, t10, t11, e8, e9, d89, x25-26, x10-11, x26-10, x26-11, x25-10, x25-11}
 use Rattle.fan.proofs.Redirect.{at, at-same, at-other, at-ind, Seen, set-seen}
 use Rattle.table.specs.Slots.{relabel}
 use Rattle.fan.proofs.Relabel.{relabel-in, relabel-out}
@@ -105,22 +105,22 @@ module _ (t : Table) (Z : Shaped t) (W : WellFormed t) (c24 c25 c26 c9 c10 c11 c
       Q y = y ≡ 1
 
       none : d ≢ c26 → d ≢ c25 → d ≢ c24 → d ≢ c11 → d ≢ c10 → d ≢ c9 → S d → ⊥
-      none a b c e f g (is24 z) = c z
-      none a b c e f g (is25 z) = b z
-      none a b c e f g (is26 z) = a z
-      none a b c e f g (is9 z) = g z
-      none a b c e f g (is10 z) = f z
-      none a b c e f g (is11 z) = e z
+      none a b c e f g (is1 z) = c z
+      none a b c e f g (is2 z) = b z
+      none a b c e f g (is0 z) = a z
+      none a b c e f g (is4 z) = g z
+      none a b c e f g (is5 z) = f z
+      none a b c e f g (is3 z) = e z
 
   marks-off : (d : ℕ) → ¬ S d → marks-at d ≡ getD (t .cornerMark) d 1
   unfolding marks-at
   marks-off d n =
-      let a : d ≢ c24 = λ z. n (is24 z) in
-      let b : d ≢ c25 = λ z. n (is25 z) in
-      let c : d ≢ c26 = λ z. n (is26 z) in
-      let e : d ≢ c9 = λ z. n (is9 z) in
-      let f : d ≢ c10 = λ z. n (is10 z) in
-      let g : d ≢ c11 = λ z. n (is11 z) in
+      let a : d ≢ c24 = λ z. n (is1 z) in
+      let b : d ≢ c25 = λ z. n (is2 z) in
+      let c : d ≢ c26 = λ z. n (is0 z) in
+      let e : d ≢ c9 = λ z. n (is4 z) in
+      let f : d ≢ c10 = λ z. n (is5 z) in
+      let g : d ≢ c11 = λ z. n (is3 z) in
       simp at-other
 
   pub keep : (d : ℕ) → Live t d → ¬ S d → Live u d
@@ -230,12 +230,12 @@ module _ (t : Table) (Z : Shaped t) (W : WellFormed t) (c24 c25 c26 c9 c10 c11 c
       (keep (corner t v) (W .cornerLive v h) (off a b c), w (corner t v) (W .cornerLive v h) (λ z. m (sym (W .cornerOwn v h) ∙ z)) ∙ W .cornerOwn v h))))
     where
       off : v ≢ vertex t c25 → v ≢ vertex t c24 → v ≢ vertex t c9 → ¬ S (corner t v)
-      off a b c (is24 z) = b (cc (W .cornerOwn v h))
-      off a b c (is25 z) = a (cc (W .cornerOwn v h))
-      off a b c (is26 z) = m (cc (W .cornerOwn v h))
-      off a b c (is9 z) = c (cc (W .cornerOwn v h))
-      off a b c (is10 z) = m (cc (W .cornerOwn v h, e9 L A))
-      off a b c (is11 z) = a (cc (W .cornerOwn v h, e8 L A))
+      off a b c (is1 z) = b (cc (W .cornerOwn v h))
+      off a b c (is2 z) = a (cc (W .cornerOwn v h))
+      off a b c (is0 z) = m (cc (W .cornerOwn v h))
+      off a b c (is4 z) = c (cc (W .cornerOwn v h))
+      off a b c (is5 z) = m (cc (W .cornerOwn v h, e9 L A))
+      off a b c (is3 z) = a (cc (W .cornerOwn v h, e8 L A))
 
   face-marks : (c : ℕ) → c < t .corners → getD cm′ (next c) 1 ≡ getD cm′ c 1
   face-marks c h = go (six? c24 c25 c26 c9 c10 c11 c)

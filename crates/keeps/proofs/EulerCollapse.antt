@@ -9,7 +9,7 @@ use Rattle.corner.specs.Corner.{absent}
 use Rattle.fan.proofs.Fan.{Linked}
 use Rattle.fan.proofs.Redirect.{at, at-other, at-ind}
 use Rattle.keeps.proofs.Count.{sum, sum-ext, sum-at, ind, ind-yes, ind-no, ind-iff}
-use Rattle.keeps.proofs.Collapse.{MergeSite, Merge, Six, is24, is25, is26, is9, is10, is11, Four, at28, at21, at6, at13, else, four, t24, t25, t26, t10, t11, l25, l26, l9, l10, l11, b9, b21, b28, b6, b13, l21, l28, l6, l13, x24-25, x25-26, x26-24, x9-10, x10-11, x11-9, x24-9, x24-10, x24-11, x25-9, x25-10, x25-11, x26-9, x26-10, x26-11}
+use Rattle.keeps.proofs.Collapse.{MergeSite, Merge, Six, is1, is2, is0, is4, is5, is3, Four, at28, at21, at6, at13, else, four, t24, t25, t26, t10, t11, l25, l26, l9, l10, l11, b9, b21, b28, b6, b13, l21, l28, l6, l13, x24-25, x25-26, x26-24, x9-10, x10-11, x11-9, x24-9, x24-10, x24-11, x25-9, x25-10, x25-11, x26-9, x26-10, x26-11}
 use Rattle.keeps.proofs.Euler.{same-euler, live?, drop6, bare, paired, bare?, paired?, liveV?, edges, faces, vertices}
 use Rattle.table.specs.Table.{Table, Live, LiveVertex, opposite, vertex, Shaped}
 use Rattle.table.specs.Rules.{WellFormed}
@@ -30,12 +30,12 @@ module _ {live live′ : ℕ → Type 0} {opposite opposite′ vertex vertex′ 
 
   -- the six are all paired
   six-paired : (d : ℕ) → S d → live d × (opposite d ≢ absent)
-  six-paired d (is24 e) = rw e (A .alive, t24 L A)
-  six-paired d (is25 e) = rw e (l25 L A, t25 L A)
-  six-paired d (is26 e) = rw e (l26 L A, t26 L A)
-  six-paired d (is9 e) = rw e (l9 L A, λ z. L .present c24 (A .alive) (cc (b9 L A)))
-  six-paired d (is10 e) = rw e (l10 L A, t10 L A)
-  six-paired d (is11 e) = rw e (l11 L A, t11 L A)
+  six-paired d (is1 e) = rw e (A .alive, t24 L A)
+  six-paired d (is2 e) = rw e (l25 L A, t25 L A)
+  six-paired d (is0 e) = rw e (l26 L A, t26 L A)
+  six-paired d (is4 e) = rw e (l9 L A, λ z. L .present c24 (A .alive) (cc (b9 L A)))
+  six-paired d (is5 e) = rw e (l10 L A, t10 L A)
+  six-paired d (is3 e) = rw e (l11 L A, t11 L A)
 
   -- a kept corner has an opposite afterwards if it had one
   same-pair : (d : ℕ) → live′ d → (opposite′ d ≡ absent → opposite d ≡ absent) × (opposite d ≡ absent → opposite′ d ≡ absent)
@@ -64,15 +64,15 @@ module _ {live live′ : ℕ → Type 0} {opposite opposite′ vertex vertex′ 
       let one : (d : ℕ) → S d → ind (p d) ≡ 1 = λ d s. ind-yes (p d) (six-paired d s) in
       let e : sum n (λ d. ind (q d)) ≡ sum n (at c11 0 (at c10 0 (at c9 0 (at c26 0 (at c25 0 (at c24 0 f)))))) = sum-ext n _ _ (λ d l. place d) in
       let s : sum n (at c11 0 (at c10 0 (at c9 0 (at c26 0 (at c25 0 (at c24 0 f)))))) + (f c24 + f c25 + f c26 + f c9 + f c10 + f c11) ≡ sum n f =
-      drop6 n f c24 c25 c26 c9 c10 c11 (in6 c24 (is24 refl)) (in6 c25 (is25 refl)) (in6 c26 (is26 refl)) (in6 c9 (is9 refl)) (in6 c10 (is10 refl)) (in6 c11 (is11 refl))
+      drop6 n f c24 c25 c26 c9 c10 c11 (in6 c24 (is1 refl)) (in6 c25 (is2 refl)) (in6 c26 (is0 refl)) (in6 c9 (is4 refl)) (in6 c10 (is5 refl)) (in6 c11 (is3 refl))
       (Ne·symm (x24-25 L A)) (x26-24 L A) (Ne·symm (x25-26 L A)) (Ne·symm (x24-9 L A)) (Ne·symm (x25-9 L A)) (Ne·symm (x26-9 L A))
       (Ne·symm (x24-10 L A)) (Ne·symm (x25-10 L A)) (Ne·symm (x26-10 L A)) (Ne·symm (x9-10 L A))
       (Ne·symm (x24-11 L A)) (Ne·symm (x25-11 L A)) (Ne·symm (x26-11 L A)) (x11-9 L A) (Ne·symm (x10-11 L A)) in
-      omega (arith, one c24 (is24 refl), one c25 (is25 refl), one c26 (is26 refl), one c9 (is9 refl), one c10 (is10 refl), one c11 (is11 refl))
+      omega (arith, one c24 (is1 refl), one c25 (is2 refl), one c26 (is0 refl), one c9 (is4 refl), one c10 (is5 refl), one c11 (is3 refl))
     where
       place : (d : ℕ) → ind (q d) ≡ at c11 0 (at c10 0 (at c9 0 (at c26 0 (at c25 0 (at c24 0 (λ d. ind (p d))))))) d
-      place d = at-ind Q c11 0 _ d (λ e. dead (is11 e)) (λ a. at-ind Q c10 0 _ d (λ e. dead (is10 e)) (λ b. at-ind Q c9 0 _ d (λ e. dead (is9 e)) (λ c.
-          at-ind Q c26 0 _ d (λ e. dead (is26 e)) (λ e. at-ind Q c25 0 _ d (λ e. dead (is25 e)) (λ f. at-ind Q c24 0 _ d (λ e. dead (is24 e)) (λ g. kept (none a b c e f g)))))))
+      place d = at-ind Q c11 0 _ d (λ e. dead (is3 e)) (λ a. at-ind Q c10 0 _ d (λ e. dead (is5 e)) (λ b. at-ind Q c9 0 _ d (λ e. dead (is4 e)) (λ c.
+          at-ind Q c26 0 _ d (λ e. dead (is0 e)) (λ e. at-ind Q c25 0 _ d (λ e. dead (is2 e)) (λ f. at-ind Q c24 0 _ d (λ e. dead (is1 e)) (λ g. kept (none a b c e f g)))))))
         where
           Q : ℕ → Type 0
           Q y = ind (q d) ≡ y
@@ -81,12 +81,12 @@ module _ {live live′ : ℕ → Type 0} {opposite opposite′ vertex vertex′ 
           dead s = ind-no (q d) (λ h. C .gone d (h .0) s)
 
           none : d ≢ c11 → d ≢ c10 → d ≢ c9 → d ≢ c26 → d ≢ c25 → d ≢ c24 → ¬ S d
-          none a b c e f g (is24 z) = g z
-          none a b c e f g (is25 z) = f z
-          none a b c e f g (is26 z) = e z
-          none a b c e f g (is9 z) = c z
-          none a b c e f g (is10 z) = b z
-          none a b c e f g (is11 z) = a z
+          none a b c e f g (is1 z) = g z
+          none a b c e f g (is2 z) = f z
+          none a b c e f g (is0 z) = e z
+          none a b c e f g (is4 z) = c z
+          none a b c e f g (is5 z) = b z
+          none a b c e f g (is3 z) = a z
 
           kept : ¬ S d → ind (q d) ≡ ind (p d)
           kept n = ind-iff (q d) (p d)
@@ -115,28 +115,28 @@ module _ {live live′ : ℕ → Type 0} {opposite opposite′ vertex vertex′ 
 
   -- a face's first corner is one of the six exactly in the two faces
   six-face : (d : ℕ) → S d → (d / 3 ≡ c24 / 3) ⊎ (d / 3 ≡ c9 / 3)
-  six-face d (is24 e) = inl (ap (λ (x : ℕ). x / 3) e)
-  six-face d (is25 e) = inl (ap (λ (x : ℕ). x / 3) e ∙ g25)
-  six-face d (is26 e) = inl (ap (λ (x : ℕ). x / 3) e ∙ g26)
-  six-face d (is9 e) = inr (ap (λ (x : ℕ). x / 3) e)
-  six-face d (is10 e) = inr (ap (λ (x : ℕ). x / 3) e ∙ g10)
-  six-face d (is11 e) = inr (ap (λ (x : ℕ). x / 3) e ∙ g11)
+  six-face d (is1 e) = inl (ap (λ (x : ℕ). x / 3) e)
+  six-face d (is2 e) = inl (ap (λ (x : ℕ). x / 3) e ∙ g25)
+  six-face d (is0 e) = inl (ap (λ (x : ℕ). x / 3) e ∙ g26)
+  six-face d (is4 e) = inr (ap (λ (x : ℕ). x / 3) e)
+  six-face d (is5 e) = inr (ap (λ (x : ℕ). x / 3) e ∙ g10)
+  six-face d (is3 e) = inr (ap (λ (x : ℕ). x / 3) e ∙ g11)
 
   face-six : (d : ℕ) → d / 3 ≡ c24 / 3 → S d
   face-six d e = go (in-face c24 d e)
     where
       go : InFace c24 d → S d
-      go (itself z) = is24 z
-      go (after z) = is25 (z ∙ A .f .n0)
-      go (before z) = is26 (z ∙ A .f .p0)
+      go (itself z) = is1 z
+      go (after z) = is2 (z ∙ A .f .n0)
+      go (before z) = is0 (z ∙ A .f .p0)
 
   face-six′ : (d : ℕ) → d / 3 ≡ c9 / 3 → S d
   face-six′ d e = go (in-face c9 d e)
     where
       go : InFace c9 d → S d
-      go (itself z) = is9 z
-      go (after z) = is10 (z ∙ A .g .n0)
-      go (before z) = is11 (z ∙ A .g .p0)
+      go (itself z) = is4 z
+      go (after z) = is5 (z ∙ A .g .n0)
+      go (before z) = is3 (z ∙ A .g .p0)
 
   pub faces-less : (n : ℕ) → n % 3 ≡ 0 → ((d : ℕ) → live d → d < n) → (p : (d : ℕ) → Dec (live d)) (q : (d : ℕ) → Dec (live′ d))
       → sum (n / 3) (λ f. ind (q (3 * f))) + 2 ≡ sum (n / 3) (λ f. ind (p (3 * f)))

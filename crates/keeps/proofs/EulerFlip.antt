@@ -7,9 +7,9 @@ use Rattle.corner.specs.Corner.{next}
 use Rattle.corner.specs.Corner.{absent}
 use Rattle.fan.proofs.Fan.{Linked}
 use Rattle.keeps.proofs.SplitFace.{face3}
-use Rattle.keeps.proofs.Collapse.{Six, is24, is25, is26, is9, is10, is11, six?}
 use Rattle.keeps.proofs.Count.{sum, sum-ext, sum-round, ind, ind-iff}
-use Rattle.keeps.proofs.Flip.{FlipSite, Flip, Out, by5, by0, by2, by3, far, out, l2, l0, l4, l5, l3, b4, x2-0, x2-3, x2-5, x0-5, x0-3, x5-3}
+use Rattle.keeps.proofs.Site.{Six, is1, is2, is0, is4, is5, is3, six?, Site, site, l2, l0, l4, l5, l3, b4, x2-0, x2-3, x2-5, x0-5, x0-3, x5-3}
+use Rattle.keeps.proofs.Flip.{Flip, Out, by5, by0, by2, by3, far, out}
 use Rattle.keeps.proofs.Euler.{same-euler, live?, bare, paired, bare?, paired?, liveV?, edges, faces, vertices}
 use Rattle.table.specs.Table.{Table, Live, opposite, vertex, Shaped}
 use Rattle.table.specs.Rules.{WellFormed}
@@ -20,7 +20,8 @@ use Rattle.fan.proofs.Tables.{table-linked}
 use Rattle.keeps.proofs.FlipTable.{flipped, the-flip, co′, cv′, vc′}
 
 module _ {live : ℕ → Type 0} {opposite opposite′ vertex vertex′ : ℕ → ℕ} {c1 c2 c0 c4 c5 c3 : ℕ} (n : ℕ) (below : (d : ℕ) → live d → d < n) (L : Linked live opposite vertex)
-    (A : FlipSite live opposite vertex c1 c2 c0 c4 c5 c3) (C : Flip live opposite opposite′ vertex vertex′ c1 c2 c0 c4 c5 c3) where
+    (A : Site live opposite c1 c2 c0 c4 c5 c3) (w : vertex c1 ≢ vertex c4)
+    (C : Flip live opposite opposite′ vertex vertex′ c1 c2 c0 c4 c5 c3) where
   Same : ℕ → ℕ → Type 0
   Same d e = (opposite′ d ≡ absent → opposite e ≡ absent) × (opposite e ≡ absent → opposite′ d ≡ absent)
 
@@ -36,15 +37,15 @@ module _ {live : ℕ → Type 0} {opposite opposite′ vertex vertex′ : ℕ �
   old-same d h p q r s = go (six? c1 c2 c0 c4 c5 c3 d)
     where
       go : Dec (Six c1 c2 c0 c4 c5 c3 d) → Same d d
-      go (yes (is24 e)) = both d c4 c4 (ap opposite′ e ∙ C .n1) (l4 L A) (ap opposite e ∙ A .o1) (l4 L A)
-      go (yes (is25 e)) = absurd (s e)
-      go (yes (is26 e)) = absurd (p e)
-      go (yes (is9 e)) = both d c1 c1 (ap opposite′ e ∙ C .n4) (A .alive) (ap opposite e ∙ b4 L A) (A .alive)
-      go (yes (is10 e)) = absurd (q e)
-      go (yes (is11 e)) = absurd (r e)
-      go (no m) = at′ (out L A C d h m)
+      go (yes (is1 e)) = both d c4 c4 (ap opposite′ e ∙ C .n1) (l4 L A) (ap opposite e ∙ A .o1) (l4 L A)
+      go (yes (is2 e)) = absurd (s e)
+      go (yes (is0 e)) = absurd (p e)
+      go (yes (is4 e)) = both d c1 c1 (ap opposite′ e ∙ C .n4) (A .alive) (ap opposite e ∙ b4 L A) (A .alive)
+      go (yes (is5 e)) = absurd (q e)
+      go (yes (is3 e)) = absurd (r e)
+      go (no m) = at′ (out L A w C d h m)
         where
-          at′ : Out L A C d → Same d d
+          at′ : Out L A w C d → Same d d
           at′ (by5 o) = both d c0 c5 (C .over5 d h o) (l0 L A) o (l5 L A)
           at′ (by0 o) = both d c2 c0 (C .over0 d h o) (l2 L A) o (l0 L A)
           at′ (by2 o) = both d c3 c2 (C .over2 d h o) (l3 L A) o (l2 L A)
@@ -79,20 +80,13 @@ module _ {live : ℕ → Type 0} {opposite opposite′ vertex vertex′ : ℕ �
 pub flip-edges : (t : Table) → Shaped t → WellFormed t → (c : ℕ) → Live t c → opposite t c ≢ absent → vertex t c ≢ vertex t (opposite t c) → edges (flipEdge t c) ≡ edges t
 unfolding flipEdge around flipVertices flipOpposites flipCorners flipped co′ cv′ vc′ edges bare paired
 flip-edges t Z W c h m v =
-    let A : FlipSite (Live t) (opposite t) (vertex t) c (next c) (next (next c)) (opposite t c) (next (opposite t c)) (next (next (opposite t c))) = record {
-      f = face3 c (next c) (next (next c)) refl refl;
-      g = face3 (opposite t c) (next (opposite t c)) (next (next (opposite t c))) refl refl;
-      alive = h;
-      o1 = refl;
-      t1 = m;
-      wings = v;
-    } in
+    let A = site (opposite t) c h m in
     let L : Linked (Live t) (opposite t) (vertex t) = table-linked t Z W in
-    let new : Table = flipped t Z W c (next c) (next (next c)) (opposite t c) (next (opposite t c)) (next (next (opposite t c))) A in
+    let new : Table = flipped t Z W c (next c) (next (next c)) (opposite t c) (next (opposite t c)) (next (next (opposite t c))) A v in
     let C : Flip (Live t) (opposite t) (opposite new) (vertex t) (vertex new) c (next c) (next (next c)) (opposite t c) (next (opposite t c)) (next (next (opposite t c)))
-    = the-flip t Z W c (next c) (next (next c)) (opposite t c) (next (opposite t c)) (next (next (opposite t c))) A in
-    let b : sum (t .corners) (λ d. ind (bare? new d)) ≡ sum (t .corners) (λ d. ind (bare? t d)) = bare-same (t .corners) (λ d k. k .0) L A C (live? t) (bare? t) (bare? new) in
-    let p : sum (t .corners) (λ d. ind (paired? new d)) ≡ sum (t .corners) (λ d. ind (paired? t d)) = paired-same (t .corners) (λ d k. k .0) L A C (live? t) (paired? t) (paired? new) in
+    = the-flip t Z W c (next c) (next (next c)) (opposite t c) (next (opposite t c)) (next (next (opposite t c))) A v in
+    let b : sum (t .corners) (λ d. ind (bare? new d)) ≡ sum (t .corners) (λ d. ind (bare? t d)) = bare-same (t .corners) (λ d k. k .0) L A v C (live? t) (bare? t) (bare? new) in
+    let p : sum (t .corners) (λ d. ind (paired? new d)) ≡ sum (t .corners) (λ d. ind (paired? t d)) = paired-same (t .corners) (λ d k. k .0) L A v C (live? t) (paired? t) (paired? new) in
     cc
 
 pub flip-euler : (t : Table) → Shaped t → WellFormed t → (c : ℕ) → Live t c → opposite t c ≢ absent → vertex t c ≢ vertex t (opposite t c)

@@ -11,7 +11,8 @@ use Rattle.fan.proofs.Fan.{Linked, opp-of}
 use Rattle.keeps.proofs.SplitFace.{face3}
 use Rattle.fan.proofs.Redirect.{at}
 use Rattle.keeps.proofs.Count.{sum, sum-one, sum-ext, sum-six, sum-two, ind, ind-yes, ind-no, ind-iff}
-use Rattle.keeps.proofs.SplitInner.{SplitSite, Split, split-linked, l0, l5, l2, x0-5}
+use Rattle.keeps.proofs.Site.{Site, l0, l5, l2, x0-5}
+use Rattle.keeps.proofs.SplitInner.{Split, split-linked}
 use Rattle.keeps.proofs.Euler.{same-euler, live?, bare, paired, bare?, paired?, liveV?, edges, faces, vertices}
 use Rattle.table.specs.Table.{Table, Live, opposite, vertex, Shaped}
 use Rattle.table.specs.Rules.{WellFormed}
@@ -36,7 +37,7 @@ grow6 n c0 c5 k f g h0 h5 x g0 g5 same a b c d e r =
     let s : sum n g + f c0 + f c5 ≡ sum n f + k + k = sum-two n c0 c5 k k f g h0 h5 x g0 g5 same in
     omega (arith, sum-six n g)
 
-module _ {live live′ : ℕ → Type 0} {opposite opposite′ vertex vertex′ : ℕ → ℕ} {c1 c2 c0 c4 c5 c3 : ℕ} (n u : ℕ) (L : Linked live opposite vertex) (A : SplitSite live opposite vertex c1 c2 c0 c4 c5 c3)
+module _ {live live′ : ℕ → Type 0} {opposite opposite′ vertex vertex′ : ℕ → ℕ} {c1 c2 c0 c4 c5 c3 : ℕ} (n u : ℕ) (L : Linked live opposite vertex) (A : Site live opposite c1 c2 c0 c4 c5 c3)
     (C : Split live live′ opposite opposite′ vertex vertex′ c1 c2 c0 c4 c5 c3 n (n + 1) (n + 2) (n + 3) (n + 4) (n + 5) u) where
   L′ : Linked live′ opposite′ vertex′
   L′ = split-linked L A C
@@ -114,7 +115,7 @@ module _ {live live′ : ℕ → Type 0} {opposite opposite′ vertex vertex′ 
       rw e (omega arith)
 
 module _ (t : Table) (Z : Shaped t) (W : WellFormed t) (room : t .corners + 6 ≤ length (t .cornerMark)) (vroom : t .vertices + 1 ≤ length (t .vertexMark))
-    (c1 c2 c0 c4 c5 c3 : ℕ) (A : SplitSite (Live t) (opposite t) (vertex t) c1 c2 c0 c4 c5 c3) (i0 : c0 < t .corners) (i5 : c5 < t .corners) (x05 : c0 ≢ c5)
+    (c1 c2 c0 c4 c5 c3 : ℕ) (A : Site (Live t) (opposite t) c1 c2 c0 c4 c5 c3) (i0 : c0 < t .corners) (i5 : c5 < t .corners) (x05 : c0 ≢ c5)
     (vp′ : List Float) (good : (v : ℕ) → LiveV1 t v → finitePoint (pointAt vp′ v) ≡ true) where
   abbrev new : Table
   new = t′ t Z W room vroom c1 c2 c0 c4 c5 c3 A vp′ good
@@ -144,7 +145,7 @@ pub split-euler : (t : Table) → Shaped t → WellFormed t → t .corners + 6 �
     → (c : ℕ) → Live t c → opposite t c ≢ absent → (at : Point) → finitePoint at ≡ true → SameEuler t (splitInnerEdge t c at)
 unfolding splitInnerEdge around innerVertices innerOpposites splitCorners cs cv0 cv′ co0 o1 b5 co′ vc′
 split-euler t Z W r s c h m at f =
-    let A : SplitSite (Live t) (opposite t) (vertex t) c (next c) (next (next c)) (opposite t c) (next (opposite t c)) (next (next (opposite t c))) = record {
+    let A : Site (Live t) (opposite t) c (next c) (next (next c)) (opposite t c) (next (opposite t c)) (next (next (opposite t c))) = record {
       f = face3 c (next c) (next (next c)) refl refl;
       g = face3 (opposite t c) (next (opposite t c)) (next (next (opposite t c))) refl refl;
       alive = h;

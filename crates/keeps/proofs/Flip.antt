@@ -8,17 +8,8 @@ use Rattle.corner.specs.Corner.{absent}
 use Rattle.table.specs.Rules.{Mate}
 use Rattle.fan.proofs.Fan.{Left, Conn, stay, fore, conn-trans, conn-sym, conn-eq, simulate, Linked, OneFan, mate-sym, mate-at, linked, face-previous, opp-not-self, opp-not-next, opp-not-previous, opp-of}
 use Rattle.keeps.proofs.SplitFace.{Face3}
-use Rattle.keeps.proofs.Collapse.{Six, is24, is25, is26, is9, is10, is11, six?}
+use Rattle.keeps.proofs.Site.{Six, is1, is2, is0, is4, is5, is3, six?, Site, l2, l0, l4, l5, l3, b4, e0, e2, d12, d20, d01, d45, d34, x1-2, x2-0, x0-1, x4-5, x5-3, x3-4, x1-5, x1-3, x2-4, x2-5, x2-3, x0-4, x0-5, x0-3, six-next, off-previous, off-next}
 use Rattle.fan.proofs.Redirect.{at, at-same, at-other}
-
--- where a flip is done. Faces c1 c2 c0 and c4 c5 c3, c4 opposite c1
-pub record FlipSite (live : ℕ → Type 0) (opp vtx : ℕ → ℕ) (c1 c2 c0 c4 c5 c3 : ℕ) : Type 0 where
-  pub f : Face3 c1 c2 c0
-  pub g : Face3 c4 c5 c3
-  pub alive : live c1
-  pub o1 : opp c1 ≡ c4
-  pub t1 : opp c1 ≢ absent
-  pub wings : vtx c1 ≢ vtx c4
 
 -- what it writes
 pub record Flip (live : ℕ → Type 0) (opp opp′ vtx vtx′ : ℕ → ℕ) (c1 c2 c0 c4 c5 c3 : ℕ) : Type 0 where
@@ -41,141 +32,46 @@ pub record Flip (live : ℕ → Type 0) (opp opp′ vtx vtx′ : ℕ → ℕ) (c
   pub w5 : vtx′ c5 ≡ vtx c1
   pub wrest : (d : ℕ) → live d → ¬ Six c1 c2 c0 c4 c5 c3 d → vtx′ d ≡ vtx d
 
-module _ {live : ℕ → Type 0} {opp vtx : ℕ → ℕ} {c1 c2 c0 c4 c5 c3 : ℕ} (L : Linked live opp vtx) (A : FlipSite live opp vtx c1 c2 c0 c4 c5 c3) where
+module _ {live : ℕ → Type 0} {opp vtx : ℕ → ℕ} {c1 c2 c0 c4 c5 c3 : ℕ} (L : Linked live opp vtx) (A : Site live opp c1 c2 c0 c4 c5 c3)
+    (w : vtx c1 ≢ vtx c4) where
   abbrev pub S : ℕ → Type 0
   S d = Six c1 c2 c0 c4 c5 c3 d
 
-  pub l2 : live c2
-  l2 = subst live (A .f .n0) (L .face c1 (A .alive))
-
-  pub l0 : live c0
-  l0 = subst live (A .f .n1) (L .face c2 l2)
-
-  pub l4 : live c4
-  l4 = subst live (A .o1) (L .over c1 (A .alive) (A .t1))
-
-  pub l5 : live c5
-  l5 = subst live (A .g .n0) (L .face c4 l4)
-
-  pub l3 : live c3
-  l3 = subst live (A .g .n1) (L .face c5 l5)
-
-  pub b4 : opp c4 ≡ c1
-  b4 = opp-of L c1 c4 (A .alive) l4 (A .o1)
-
-  -- the shared ends
-  pub e0 : vtx c5 ≡ vtx c0
-  e0 = cc (L .tail c1 (A .alive) (A .t1))
-
-  pub e2 : vtx c3 ≡ vtx c2
-  e2 = cc (L .head c1 (A .alive) (A .t1))
-
-  pub d12 : vtx c1 ≢ vtx c2
-  d12 z = L .differ c1 (A .alive) (cc)
-
-  pub d20 : vtx c2 ≢ vtx c0
-  d20 z = L .differ c2 l2 (cc)
-
-  pub d01 : vtx c0 ≢ vtx c1
-  d01 z = L .differ c0 l0 (cc)
-
-  pub d45 : vtx c4 ≢ vtx c5
-  d45 z = L .differ c4 l4 (cc)
-
-  pub d34 : vtx c3 ≢ vtx c4
-  d34 z = L .differ c3 l3 (cc)
-
-  pub x1-2 : c1 ≢ c2
-  x1-2 z = d12 (cc)
-
-  pub x2-0 : c2 ≢ c0
-  x2-0 z = d20 (cc)
-
-  pub x0-1 : c0 ≢ c1
-  x0-1 z = d01 (cc)
-
-  pub x4-5 : c4 ≢ c5
-  x4-5 z = d45 (cc)
-
-  pub x5-3 : c5 ≢ c3
-  x5-3 z = d20 (cc (e0, e2))
-
-  pub x3-4 : c3 ≢ c4
-  x3-4 z = d34 (cc)
-
   pub x1-4 : c1 ≢ c4
-  x1-4 z = A .wings (cc)
-
-  pub x1-5 : c1 ≢ c5
-  x1-5 z = d01 (cc (e0))
-
-  pub x1-3 : c1 ≢ c3
-  x1-3 z = d12 (cc (e2))
-
-  pub x2-4 : c2 ≢ c4
-  x2-4 z = d34 (cc (e2))
-
-  pub x2-5 : c2 ≢ c5
-  x2-5 z = d20 (cc (e0))
-
-  pub x2-3 : c2 ≢ c3
-  x2-3 z = d01 (cc (e0))
-
-  pub x0-4 : c0 ≢ c4
-  x0-4 z = d45 (cc (e0))
-
-  pub x0-5 : c0 ≢ c5
-  x0-5 z = d12 (cc (e2))
-
-  pub x0-3 : c0 ≢ c3
-  x0-3 z = d20 (cc (e2))
-
-  pub six-next : (d : ℕ) → S d → S (next d)
-  six-next d (is24 h) = is25 (cc)
-  six-next d (is25 h) = is26 (cc)
-  six-next d (is26 h) = is24 (cc)
-  six-next d (is9 h) = is10 (cc)
-  six-next d (is10 h) = is11 (cc)
-  six-next d (is11 h) = is9 (cc)
-
-  pub off-previous : (d : ℕ) → ¬ S d → ¬ S (previous d)
-  off-previous d n s = n (subst S (next-previous d) (six-next (previous d) s))
-
-  pub off-next : (d : ℕ) → ¬ S d → ¬ S (next d)
-  off-next d n s = off-previous (previous d) (off-previous d n) (subst S (cc (next-next (previous d), next-previous d)) s)
+  x1-4 z = w (cc)
 
   -- the outer opposites lie outside the two faces
   pub s0 : opp c0 ≢ absent → ¬ S (opp c0)
-  s0 t (is24 h) = opp-not-next L c0 l0 t (cc)
-  s0 t (is25 h) = opp-not-previous L c0 l0 t (cc)
-  s0 t (is26 h) = opp-not-self L c0 l0 t h
-  s0 t (is9 h) = x0-1 (cc (L .pair c0 l0 t, b4))
-  s0 t (is10 h) = A .wings (cc (L .head c0 l0 t))
-  s0 t (is11 h) = d34 (cc (L .tail c0 l0 t, e2))
+  s0 t (is1 h) = opp-not-next L c0 (l0 L A) t (cc)
+  s0 t (is2 h) = opp-not-previous L c0 (l0 L A) t (cc)
+  s0 t (is0 h) = opp-not-self L c0 (l0 L A) t h
+  s0 t (is4 h) = x0-1 L A (cc (L .pair c0 (l0 L A) t, b4 L A))
+  s0 t (is5 h) = w (cc (L .head c0 (l0 L A) t))
+  s0 t (is3 h) = d34 L A (cc (L .tail c0 (l0 L A) t, e2 L A))
 
   pub s2 : opp c2 ≢ absent → ¬ S (opp c2)
-  s2 t (is24 h) = opp-not-previous L c2 l2 t (cc)
-  s2 t (is25 h) = opp-not-self L c2 l2 t h
-  s2 t (is26 h) = opp-not-next L c2 l2 t (cc)
-  s2 t (is9 h) = x1-2 (cc (L .pair c2 l2 t, b4))
-  s2 t (is10 h) = d12 (cc (L .tail c2 l2 t, e2))
-  s2 t (is11 h) = A .wings (cc (L .tail c2 l2 t))
+  s2 t (is1 h) = opp-not-previous L c2 (l2 L A) t (cc)
+  s2 t (is2 h) = opp-not-self L c2 (l2 L A) t h
+  s2 t (is0 h) = opp-not-next L c2 (l2 L A) t (cc)
+  s2 t (is4 h) = x1-2 L A (cc (L .pair c2 (l2 L A) t, b4 L A))
+  s2 t (is5 h) = d12 L A (cc (L .tail c2 (l2 L A) t, e2 L A))
+  s2 t (is3 h) = w (cc (L .tail c2 (l2 L A) t))
 
   pub s5 : opp c5 ≢ absent → ¬ S (opp c5)
-  s5 t (is24 h) = x4-5 (cc (L .pair c5 l5 t))
-  s5 t (is25 h) = s2 (λ z. L .present c5 l5 (cc (L .pair c5 l5 t))) (is10 (cc (L .pair c5 l5 t)))
-  s5 t (is26 h) = s0 (λ z. L .present c5 l5 (cc (L .pair c5 l5 t))) (is10 (cc (L .pair c5 l5 t)))
-  s5 t (is9 h) = opp-not-previous L c5 l5 t (cc)
-  s5 t (is10 h) = opp-not-self L c5 l5 t h
-  s5 t (is11 h) = opp-not-next L c5 l5 t (cc)
+  s5 t (is1 h) = x4-5 L A (cc (L .pair c5 (l5 L A) t))
+  s5 t (is2 h) = s2 (λ z. L .present c5 (l5 L A) (cc (L .pair c5 (l5 L A) t))) (is5 (cc (L .pair c5 (l5 L A) t)))
+  s5 t (is0 h) = s0 (λ z. L .present c5 (l5 L A) (cc (L .pair c5 (l5 L A) t))) (is5 (cc (L .pair c5 (l5 L A) t)))
+  s5 t (is4 h) = opp-not-previous L c5 (l5 L A) t (cc)
+  s5 t (is5 h) = opp-not-self L c5 (l5 L A) t h
+  s5 t (is3 h) = opp-not-next L c5 (l5 L A) t (cc)
 
   pub s3 : opp c3 ≢ absent → ¬ S (opp c3)
-  s3 t (is24 h) = x3-4 (cc (L .pair c3 l3 t))
-  s3 t (is25 h) = s2 (λ z. L .present c3 l3 (cc (L .pair c3 l3 t))) (is11 (cc (L .pair c3 l3 t)))
-  s3 t (is26 h) = s0 (λ z. L .present c3 l3 (cc (L .pair c3 l3 t))) (is11 (cc (L .pair c3 l3 t)))
-  s3 t (is9 h) = opp-not-next L c3 l3 t (cc)
-  s3 t (is10 h) = opp-not-previous L c3 l3 t (cc)
-  s3 t (is11 h) = opp-not-self L c3 l3 t h
+  s3 t (is1 h) = x3-4 L A (cc (L .pair c3 (l3 L A) t))
+  s3 t (is2 h) = s2 (λ z. L .present c3 (l3 L A) (cc (L .pair c3 (l3 L A) t))) (is3 (cc (L .pair c3 (l3 L A) t)))
+  s3 t (is0 h) = s0 (λ z. L .present c3 (l3 L A) (cc (L .pair c3 (l3 L A) t))) (is3 (cc (L .pair c3 (l3 L A) t)))
+  s3 t (is4 h) = opp-not-next L c3 (l3 L A) t (cc)
+  s3 t (is5 h) = opp-not-previous L c3 (l3 L A) t (cc)
+  s3 t (is3 h) = opp-not-self L c3 (l3 L A) t h
 
   module _ {opp′ vtx′ : ℕ → ℕ} (C : Flip live opp opp′ vtx vtx′ c1 c2 c0 c4 c5 c3) where
     -- a corner outside the two faces against them
@@ -190,12 +86,12 @@ module _ {live : ℕ → Type 0} {opp vtx : ℕ → ℕ} {c1 c2 c0 c4 c5 c3 : �
     out d h n = go (six? c1 c2 c0 c4 c5 c3 (opp d))
       where
         go : Dec (S (opp d)) → Out d
-        go (yes (is24 e)) = absurd (n (is9 (cc (opp-of L d c1 h (A .alive) e))))
-        go (yes (is25 e)) = by2 e
-        go (yes (is26 e)) = by0 e
-        go (yes (is9 e)) = absurd (n (is24 (cc (opp-of L d c4 h l4 e, b4))))
-        go (yes (is10 e)) = by5 e
-        go (yes (is11 e)) = by3 e
+        go (yes (is1 e)) = absurd (n (is4 (cc (opp-of L d c1 h (A .alive) e))))
+        go (yes (is2 e)) = by2 e
+        go (yes (is0 e)) = by0 e
+        go (yes (is4 e)) = absurd (n (is1 (cc (opp-of L d c4 h (l4 L A) e, b4 L A))))
+        go (yes (is5 e)) = by5 e
+        go (yes (is3 e)) = by3 e
         go (no e) = far e (C .rest d h n e)
 
     hop : (d x y e : ℕ) → live d → next d ≡ x → opp′ x ≡ y → live y → next y ≡ e → Conn (Left live opp′) d e
@@ -212,8 +108,8 @@ module _ {live : ℕ → Type 0} {opp vtx : ℕ → ℕ} {c1 c2 c0 c4 c5 c3 : �
         record {
           over = m;
           pair = p ∙ opp-of L d x h k o;
-          tail = cc (L .tail d h t, C .wrest (previous d) (face-previous L d h) (off-previous d n));
-          head = cc (L .head d h t, C .wrest (next d) (L .face d h) (off-next d n));
+          tail = cc (L .tail d h t, C .wrest (previous d) (face-previous L d h) (off-previous L A d n));
+          head = cc (L .head d h t, C .wrest (next d) (L .face d h) (off-next L A d n));
         }
 
     -- and the same from y
@@ -227,26 +123,26 @@ module _ {live : ℕ → Type 0} {opp vtx : ℕ → ℕ} {c1 c2 c0 c4 c5 c3 : �
         mate-at y (opp x) p (mate-sym h (ov (opp x) h q) (outer (opp x) x y h (n t′) k m q p a b))
 
     m14 : Mate live opp′ vtx′ c1 c4
-    m14 = record { over = l4; pair = C .n4; tail = cc; head = cc }
+    m14 = record { over = l4 L A; pair = C .n4; tail = cc; head = cc }
 
     mated : (d : ℕ) → live d → Mated d
     unfolding Mated
     mated d h t = go (six? c1 c2 c0 c4 c5 c3 d)
       where
         go : Dec (S d) → Mate live opp′ vtx′ d (opp′ d)
-        go (yes (is24 e)) = mate-at d c4 (cc) (rw e m14)
-        go (yes (is25 e)) = subst Mated (sym e) (inner c0 c2 l0 l2 (C .n2) s0 (C .over0) (cc) (cc)) t
-        go (yes (is26 e)) = subst Mated (sym e) (inner c5 c0 l5 l0 (C .n0) s5 (C .over5) (cc (e2)) (cc)) t
-        go (yes (is9 e)) = mate-at d c1 (cc) (rw e (mate-sym (A .alive) (C .n1) m14))
-        go (yes (is10 e)) = subst Mated (sym e) (inner c3 c5 l3 l5 (C .n5) s3 (C .over3) (cc) (cc (e0))) t
-        go (yes (is11 e)) = subst Mated (sym e) (inner c2 c3 l2 l3 (C .n3) s2 (C .over2) (cc) (cc)) t
+        go (yes (is1 e)) = mate-at d c4 (cc) (rw e m14)
+        go (yes (is2 e)) = subst Mated (sym e) (inner c0 c2 (l0 L A) (l2 L A) (C .n2) s0 (C .over0) (cc) (cc)) t
+        go (yes (is0 e)) = subst Mated (sym e) (inner c5 c0 (l5 L A) (l0 L A) (C .n0) s5 (C .over5) (cc (e2 L A)) (cc)) t
+        go (yes (is4 e)) = mate-at d c1 (cc) (rw e (mate-sym (A .alive) (C .n1) m14))
+        go (yes (is5 e)) = subst Mated (sym e) (inner c3 c5 (l3 L A) (l5 L A) (C .n5) s3 (C .over3) (cc) (cc (e0 L A))) t
+        go (yes (is3 e)) = subst Mated (sym e) (inner c2 c3 (l2 L A) (l3 L A) (C .n3) s2 (C .over2) (cc) (cc)) t
         go (no n) = at′ (out d h n)
           where
             at′ : Out d → Mate live opp′ vtx′ d (opp′ d)
-            at′ (by5 o) = mate-at d c0 (C .over5 d h o) (outer d c5 c0 h n l5 l0 o (C .n0) (cc (e2)) (cc))
-            at′ (by0 o) = mate-at d c2 (C .over0 d h o) (outer d c0 c2 h n l0 l2 o (C .n2) (cc) (cc))
-            at′ (by2 o) = mate-at d c3 (C .over2 d h o) (outer d c2 c3 h n l2 l3 o (C .n3) (cc) (cc))
-            at′ (by3 o) = mate-at d c5 (C .over3 d h o) (outer d c3 c5 h n l3 l5 o (C .n5) (cc) (cc (e0)))
+            at′ (by5 o) = mate-at d c0 (C .over5 d h o) (outer d c5 c0 h n (l5 L A) (l0 L A) o (C .n0) (cc (e2 L A)) (cc))
+            at′ (by0 o) = mate-at d c2 (C .over0 d h o) (outer d c0 c2 h n (l0 L A) (l2 L A) o (C .n2) (cc) (cc))
+            at′ (by2 o) = mate-at d c3 (C .over2 d h o) (outer d c2 c3 h n (l2 L A) (l3 L A) o (C .n3) (cc) (cc))
+            at′ (by3 o) = mate-at d c5 (C .over3 d h o) (outer d c3 c5 h n (l3 L A) (l5 L A) o (C .n5) (cc) (cc (e0 L A)))
             at′ (far m r) =
                 let t′ : opp d ≢ absent = rw r at t in
                 let y : live (opp d) = L .over d h t′ in
@@ -254,21 +150,21 @@ module _ {live : ℕ → Type 0} {opp vtx : ℕ → ℕ} {c1 c2 c0 c4 c5 c3 : �
                 mate-at d (opp d) r (record {
                   over = y;
                   pair = C .rest (opp d) y m (λ z. n (subst S q z)) ∙ q;
-                  tail = cc (C .wrest (next (opp d)) (L .face (opp d) y) (off-next (opp d) m), L .tail d h t′, C .wrest (previous d) (face-previous L d h) (off-previous d n));
-                  head = cc (C .wrest (previous (opp d)) (face-previous L (opp d) y) (off-previous (opp d) m), L .head d h t′, C .wrest (next d) (L .face d h) (off-next d n));
+                  tail = cc (C .wrest (next (opp d)) (L .face (opp d) y) (off-next L A (opp d) m), L .tail d h t′, C .wrest (previous d) (face-previous L d h) (off-previous L A d n));
+                  head = cc (C .wrest (previous (opp d)) (face-previous L (opp d) y) (off-previous L A (opp d) m), L .head d h t′, C .wrest (next d) (L .face d h) (off-next L A d n));
                 })
 
     differs′ : (d : ℕ) → live d → vtx′ d ≢ vtx′ (next d)
     differs′ d h z = go (six? c1 c2 c0 c4 c5 c3 d)
       where
         go : Dec (S d) → ⊥
-        go (yes (is24 e)) = d34 (cc (e2))
-        go (yes (is25 e)) = A .wings (cc)
-        go (yes (is26 e)) = d12 (cc)
-        go (yes (is9 e)) = d01 (cc)
-        go (yes (is10 e)) = A .wings (cc)
-        go (yes (is11 e)) = d45 (cc (e0))
-        go (no n) = L .differ d h (cc (C .wrest d h n, C .wrest (next d) (L .face d h) (off-next d n)))
+        go (yes (is1 e)) = d34 L A (cc (e2 L A))
+        go (yes (is2 e)) = w (cc)
+        go (yes (is0 e)) = d12 L A (cc)
+        go (yes (is4 e)) = d01 L A (cc)
+        go (yes (is5 e)) = w (cc)
+        go (yes (is3 e)) = d45 L A (cc (e0 L A))
+        go (no n) = L .differ d h (cc (C .wrest d h n, C .wrest (next d) (L .face d h) (off-next L A d n)))
 
     pub flip-linked : Linked live opp′ vtx′
     unfolding Mated
@@ -284,47 +180,47 @@ module _ {live : ℕ → Type 0} {opp vtx : ℕ → ℕ} {c1 c2 c0 c4 c5 c3 : �
 
     φ2 : φ c2 ≡ c1
     unfolding φ
-    φ2 = simp (at-other, at-same, Ne·symm x1-2)
+    φ2 = simp (at-other, at-same, Ne·symm (x1-2 L A))
 
     φ0 : φ c0 ≡ c4
     unfolding φ
-    φ0 = simp (at-other, at-same, x0-1, Ne·symm x2-0)
+    φ0 = simp (at-other, at-same, x0-1 L A, Ne·symm (x2-0 L A))
 
     φ4 : φ c4 ≡ c2
     unfolding φ
-    φ4 = simp (at-other, at-same, Ne·symm x1-4, Ne·symm x2-4, Ne·symm x0-4)
+    φ4 = simp (at-other, at-same, Ne·symm x1-4, Ne·symm (x2-4 L A), Ne·symm (x0-4 L A))
 
     φ5 : φ c5 ≡ c4
     unfolding φ
-    φ5 = simp (at-other, at-same, Ne·symm x1-5, Ne·symm x2-5, Ne·symm x0-5, Ne·symm x4-5)
+    φ5 = simp (at-other, at-same, Ne·symm (x1-5 L A), Ne·symm (x2-5 L A), Ne·symm (x0-5 L A), Ne·symm (x4-5 L A))
 
     φ3 : φ c3 ≡ c1
     unfolding φ
-    φ3 = simp (at-other, at-same, Ne·symm x1-3, Ne·symm x2-3, Ne·symm x0-3, x3-4, Ne·symm x5-3)
+    φ3 = simp (at-other, at-same, Ne·symm (x1-3 L A), Ne·symm (x2-3 L A), Ne·symm (x0-3 L A), x3-4 L A, Ne·symm (x5-3 L A))
 
     φ-off : (d : ℕ) → ¬ S d → φ d ≡ d
     unfolding φ
     φ-off d n =
-        let p : d ≢ c1 = λ z. n (is24 z) in
-        let q : d ≢ c2 = λ z. n (is25 z) in
-        let r : d ≢ c0 = λ z. n (is26 z) in
-        let s : d ≢ c4 = λ z. n (is9 z) in
-        let t : d ≢ c5 = λ z. n (is10 z) in
-        let u : d ≢ c3 = λ z. n (is11 z) in
+        let p : d ≢ c1 = λ z. n (is1 z) in
+        let q : d ≢ c2 = λ z. n (is2 z) in
+        let r : d ≢ c0 = λ z. n (is0 z) in
+        let s : d ≢ c4 = λ z. n (is4 z) in
+        let t : d ≢ c5 = λ z. n (is5 z) in
+        let u : d ≢ c3 = λ z. n (is3 z) in
         simp at-other
 
     -- c0 to c5 about v1, c3 to c2 about v3
     h05 : Conn (Left live opp′) c0 c5
-    h05 = hop c0 c1 c4 c5 l0 (A .f .n2) (C .n1) l4 (A .g .n0)
+    h05 = hop c0 c1 c4 c5 (l0 L A) (A .f .n2) (C .n1) (l4 L A) (A .g .n0)
 
     h32 : Conn (Left live opp′) c3 c2
-    h32 = hop c3 c4 c1 c2 l3 (A .g .n2) (C .n4) (A .alive) (A .f .n0)
+    h32 = hop c3 c4 c1 c2 (l3 L A) (A .g .n2) (C .n4) (A .alive) (A .f .n0)
 
     -- a step over the old edge of x leaves from where its new corner y stands
     leave : (d x y a e : ℕ) → opp x ≢ absent → live x → (opp x ≢ absent → ¬ S (opp x)) → next (opp x) ≡ e → opp′ y ≡ opp x → next a ≡ y → live a → Conn (Left live opp′) (φ d) a → Conn (Left live opp′) (φ d) (φ e)
     leave d x y a e t k n l p b m c =
         let z : live (opp x) = L .over x k t in
-        let q : φ e ≡ e = φ-off e (rw (← l) (off-next (opp x) (n t))) in
+        let q : φ e ≡ e = φ-off e (rw (← l) (off-next L A (opp x) (n t))) in
         rw q (conn-trans c (hop a y (opp x) e m b p z l))
 
     step : (d e : ℕ) → Left live opp d e → Conn (Left live opp′) (φ d) (φ e)
@@ -337,25 +233,25 @@ module _ {live : ℕ → Type 0} {opp vtx : ℕ → ℕ} {c1 c2 c0 c4 c5 c3 : �
         l = s .lands
 
         go : Dec (S d) → Conn (Left live opp′) (φ d) (φ e)
-        go (yes (is24 h)) =
+        go (yes (is1 h)) =
             let x : next d ≡ c2 = cc in
-            leave d c2 c3 c5 e (rw x at t) l2 s2 (rw x at l) (C .n3) (A .g .n1) l5 (rw (h, φ1) h05)
-        go (yes (is25 h)) =
+            leave d c2 c3 c5 e (rw x at t) (l2 L A) s2 (rw x at l) (C .n3) (A .g .n1) (l5 L A) (rw (h, φ1) h05)
+        go (yes (is2 h)) =
             let x : next d ≡ c0 = cc in
-            leave d c0 c2 c1 e (rw x at t) l0 s0 (rw x at l) (C .n2) (A .f .n0) (A .alive) (rw (h, φ2) stay)
-        go (yes (is26 h)) =
+            leave d c0 c2 c1 e (rw x at t) (l0 L A) s0 (rw x at l) (C .n2) (A .f .n0) (A .alive) (rw (h, φ2) stay)
+        go (yes (is0 h)) =
             let ee : e ≡ c5 = cc l in
             rw (h, φ0, ee, φ5) stay
-        go (yes (is9 h)) =
+        go (yes (is4 h)) =
             let x : next d ≡ c5 = cc in
-            leave d c5 c0 c2 e (rw x at t) l5 s5 (rw x at l) (C .n0) (A .f .n1) l2 (rw (h, φ4) stay)
-        go (yes (is10 h)) =
+            leave d c5 c0 c2 e (rw x at t) (l5 L A) s5 (rw x at l) (C .n0) (A .f .n1) (l2 L A) (rw (h, φ4) stay)
+        go (yes (is5 h)) =
             let x : next d ≡ c3 = cc in
-            leave d c3 c5 c4 e (rw x at t) l3 s3 (rw x at l) (C .n5) (A .g .n0) l4 (rw (h, φ5) stay)
-        go (yes (is11 h)) =
-            let ee : e ≡ c2 = cc (l, b4) in
+            leave d c3 c5 c4 e (rw x at t) (l3 L A) s3 (rw x at l) (C .n5) (A .g .n0) (l4 L A) (rw (h, φ5) stay)
+        go (yes (is3 h)) =
+            let ee : e ≡ c2 = cc (l, b4 L A) in
             rw (h, φ3, ee, φ2) stay
-        go (no n) = go′ (out (next d) x (off-next d n))
+        go (no n) = go′ (out (next d) x (off-next L A d n))
           where
             x : live (next d)
             x = L .face d (s .from)
@@ -366,18 +262,18 @@ module _ {live : ℕ → Type 0} {opp vtx : ℕ → ℕ} {c1 c2 c0 c4 c5 c3 : �
             go′ : Out (next d) → Conn (Left live opp′) (φ d) (φ e)
             go′ (by5 o) =
                 let ee : e ≡ c3 = cc l in
-                rw (p, ee, φ3) (hop d (next d) c0 c1 (s .from) refl (C .over5 (next d) x o) l0 (A .f .n2))
+                rw (p, ee, φ3) (hop d (next d) c0 c1 (s .from) refl (C .over5 (next d) x o) (l0 L A) (A .f .n2))
             go′ (by0 o) =
                 let ee : e ≡ c1 = cc l in
-                rw (p, ee, φ1) (hop d (next d) c2 c0 (s .from) refl (C .over0 (next d) x o) l2 (A .f .n1))
+                rw (p, ee, φ1) (hop d (next d) c2 c0 (s .from) refl (C .over0 (next d) x o) (l2 L A) (A .f .n1))
             go′ (by2 o) =
                 let ee : e ≡ c0 = cc l in
-                rw (p, ee, φ0) (hop d (next d) c3 c4 (s .from) refl (C .over2 (next d) x o) l3 (A .g .n2))
+                rw (p, ee, φ0) (hop d (next d) c3 c4 (s .from) refl (C .over2 (next d) x o) (l3 L A) (A .g .n2))
             go′ (by3 o) =
                 let ee : e ≡ c4 = cc l in
-                rw (p, ee, φ4) (conn-trans (hop d (next d) c5 c3 (s .from) refl (C .over3 (next d) x o) l5 (A .g .n1)) h32)
+                rw (p, ee, φ4) (conn-trans (hop d (next d) c5 c3 (s .from) refl (C .over3 (next d) x o) (l5 L A) (A .g .n1)) h32)
             go′ (far m r) =
-                let q : φ e ≡ e = φ-off e (rw (← l) (off-next (opp (next d)) m)) in
+                let q : φ e ≡ e = φ-off e (rw (← l) (off-next L A (opp (next d)) m)) in
                 rw (p, q) (hop d (next d) (opp (next d)) e (s .from) refl r (L .over (next d) x t) l)
 
     -- where a corner of the new table stands
@@ -391,12 +287,12 @@ module _ {live : ℕ → Type 0} {opp vtx : ℕ → ℕ} {c1 c2 c0 c4 c5 c3 : �
     seat d h = go (six? c1 c2 c0 c4 c5 c3 d)
       where
         go : Dec (S d) → Seat d
-        go (yes (is24 e)) = record { o = c2; lives = l2; vertex = cc; near = rw (e, φ2) stay }
-        go (yes (is25 e)) = record { o = c4; lives = l4; vertex = cc; near = rw (e, φ4) stay }
-        go (yes (is26 e)) = record { o = c1; lives = A .alive; vertex = cc; near = rw (e, φ1) stay }
-        go (yes (is9 e)) = record { o = c0; lives = l0; vertex = cc; near = rw (e, φ0) stay }
-        go (yes (is10 e)) = record { o = c1; lives = A .alive; vertex = cc; near = rw (e, φ1) (conn-sym h05) }
-        go (yes (is11 e)) = record { o = c4; lives = l4; vertex = cc; near = rw (e, φ4) h32 }
+        go (yes (is1 e)) = record { o = c2; lives = l2 L A; vertex = cc; near = rw (e, φ2) stay }
+        go (yes (is2 e)) = record { o = c4; lives = l4 L A; vertex = cc; near = rw (e, φ4) stay }
+        go (yes (is0 e)) = record { o = c1; lives = A .alive; vertex = cc; near = rw (e, φ1) stay }
+        go (yes (is4 e)) = record { o = c0; lives = l0 L A; vertex = cc; near = rw (e, φ0) stay }
+        go (yes (is5 e)) = record { o = c1; lives = A .alive; vertex = cc; near = rw (e, φ1) (conn-sym h05) }
+        go (yes (is3 e)) = record { o = c4; lives = l4 L A; vertex = cc; near = rw (e, φ4) h32 }
         go (no n) = record { o = d; lives = h; vertex = C .wrest d h n; near = conn-eq (sym (φ-off d n)) }
 
     pub flip-fan : OneFan live opp vtx → OneFan live opp′ vtx′

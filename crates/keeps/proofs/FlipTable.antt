@@ -9,9 +9,9 @@ use Rattle.corner.specs.Corner.{next}
 use Rattle.corner.specs.Corner.{absent}
 use Rattle.fan.proofs.Fan.{Linked, opp-of}
 use Rattle.keeps.proofs.SplitFace.{face3}
-use Rattle.keeps.proofs.Collapse.{Six, is24, is25, is26, is9, is10, is11}
 use Rattle.fan.proofs.Redirect.{at, at-same, at-other, at-ind, Seen, set-seen}
-use Rattle.keeps.proofs.Flip.{FlipSite, Flip, flip-linked, flip-fan, l2, l0, l4, l5, l3, s0, s2, s3, s5, x1-2, x2-0, x0-1, x4-5, x5-3, x3-4, x1-4, x1-5, x1-3, x2-4, x2-5, x2-3, x0-4, x0-5, x0-3}
+use Rattle.keeps.proofs.Site.{Six, is1, is2, is0, is4, is5, is3, Site, site, l2, l0, l4, l5, l3, x1-2, x2-0, x0-1, x4-5, x5-3, x3-4, x1-5, x1-3, x2-4, x2-5, x2-3, x0-4, x0-5, x0-3}
+use Rattle.keeps.proofs.Flip.{Flip, flip-linked, flip-fan, s0, s2, s3, s5, x1-4}
 use Rattle.table.specs.Table.{Table, table, Live, LiveVertex, opposite, vertex, corner, Shaped}
 use Rattle.table.specs.Rules.{WellFormed}
 use Rattle.edit.specs.Plans.{around}
@@ -30,7 +30,8 @@ flipCv l c0 c1 c2 c3 c4 c5 v0 v1 v2 v3 = set (set (set (set (set (set l c0 v1) c
 abbrev pub flipVc : List ℕ → (c0 c1 c2 c4 v0 v1 v2 v3 : ℕ) → List ℕ
 flipVc l c0 c1 c2 c4 v0 v1 v2 v3 = set (set (set (set l v0 c4) v1 c0) v2 c1) v3 c2
 
-module _ (t : Table) (Z : Shaped t) (W : WellFormed t) (c1 c2 c0 c4 c5 c3 : ℕ) (A : FlipSite (Live t) (opposite t) (vertex t) c1 c2 c0 c4 c5 c3) where
+module _ (t : Table) (Z : Shaped t) (W : WellFormed t) (c1 c2 c0 c4 c5 c3 : ℕ) (A : Site (Live t) (opposite t) c1 c2 c0 c4 c5 c3)
+    (wings : vertex t c1 ≢ vertex t c4) where
   L : Linked (Live t) (opposite t) (vertex t)
   L = table-linked t Z W
 
@@ -38,12 +39,12 @@ module _ (t : Table) (Z : Shaped t) (W : WellFormed t) (c1 c2 c0 c4 c5 c3 : ℕ)
   S d = Six c1 c2 c0 c4 c5 c3 d
 
   six-live : (d : ℕ) → S d → Live t d
-  six-live d (is24 e) = subst (Live t) (sym e) (A .alive)
-  six-live d (is25 e) = subst (Live t) (sym e) (l2 L A)
-  six-live d (is26 e) = subst (Live t) (sym e) (l0 L A)
-  six-live d (is9 e) = subst (Live t) (sym e) (l4 L A)
-  six-live d (is10 e) = subst (Live t) (sym e) (l5 L A)
-  six-live d (is11 e) = subst (Live t) (sym e) (l3 L A)
+  six-live d (is1 e) = subst (Live t) (sym e) (A .alive)
+  six-live d (is2 e) = subst (Live t) (sym e) (l2 L A)
+  six-live d (is0 e) = subst (Live t) (sym e) (l0 L A)
+  six-live d (is4 e) = subst (Live t) (sym e) (l4 L A)
+  six-live d (is5 e) = subst (Live t) (sym e) (l5 L A)
+  six-live d (is3 e) = subst (Live t) (sym e) (l3 L A)
 
   -- an outer opposite, absent or not, is none of the six
   outside : (x : ℕ) → (opposite t x ≢ absent → ¬ S (opposite t x)) → ¬ S (opposite t x)
@@ -56,16 +57,16 @@ module _ (t : Table) (Z : Shaped t) (W : WellFormed t) (c1 c2 c0 c4 c5 c3 : ℕ)
   apart′ d e n s z = n (subst S (sym z) s)
 
   n5 : ¬ S (opposite t c5)
-  n5 = outside c5 (s5 L A)
+  n5 = outside c5 (s5 L A wings)
 
   n0 : ¬ S (opposite t c0)
-  n0 = outside c0 (s0 L A)
+  n0 = outside c0 (s0 L A wings)
 
   n2 : ¬ S (opposite t c2)
-  n2 = outside c2 (s2 L A)
+  n2 = outside c2 (s2 L A wings)
 
   n3 : ¬ S (opposite t c3)
-  n3 = outside c3 (s3 L A)
+  n3 = outside c3 (s3 L A wings)
 
   unfoldable pub co′ : List ℕ
   co′ = flipCo (t .cornerOpposite) c0 c1 c2 c3 c4 c5 (opposite t c5) (opposite t c0) (opposite t c2) (opposite t c3)
@@ -124,10 +125,10 @@ module _ (t : Table) (Z : Shaped t) (W : WellFormed t) (c1 c2 c0 c4 c5 c3 : ℕ)
   y4-3 = Ne·symm (x3-4 L A)
 
   y1-4 : c1 ≢ c4
-  y1-4 = x1-4 L A
+  y1-4 = x1-4 L A wings
 
   y4-1 : c4 ≢ c1
-  y4-1 = Ne·symm (x1-4 L A)
+  y4-1 = Ne·symm (x1-4 L A wings)
 
   y1-5 : c1 ≢ c5
   y1-5 = x1-5 L A
@@ -177,7 +178,7 @@ module _ (t : Table) (Z : Shaped t) (W : WellFormed t) (c1 c2 c0 c4 c5 c3 : ℕ)
   y3-0 : c3 ≢ c0
   y3-0 = Ne·symm (x0-3 L A)
 
-  ruleset moves = (at-other, at-same, apart, apart′, is24, is25, is26, is9, is10, is11, n5, n0, n2, n3, y1-2, y2-1, y2-0, y0-2, y0-1, y1-0, y4-5, y5-4, y5-3, y3-5, y3-4, y4-3, y1-4, y4-1, y1-5, y5-1, y1-3, y3-1, y2-4, y4-2, y2-5, y5-2, y2-3, y3-2, y0-4, y4-0, y0-5, y5-0, y0-3, y3-0)
+  ruleset moves = (at-other, at-same, apart, apart′, is1, is2, is0, is4, is5, is3, n5, n0, n2, n3, y1-2, y2-1, y2-0, y0-2, y0-1, y1-0, y4-5, y5-4, y5-3, y3-5, y3-4, y4-3, y1-4, y4-1, y1-5, y5-1, y1-3, y3-1, y2-4, y4-2, y2-5, y5-2, y2-3, y3-2, y0-4, y4-0, y0-5, y5-0, y0-3, y3-0)
 
   q0 : getD co′ c0 absent ≡ opposite t c5
   q0 = co-at c0 (l0 L A) ∙ simp moves
@@ -233,10 +234,10 @@ module _ (t : Table) (Z : Shaped t) (W : WellFormed t) (c1 c2 c0 c4 c5 c3 : ℕ)
   rest : (d : ℕ) → Live t d → ¬ S d → ¬ S (opposite t d) → getD co′ d absent ≡ opposite t d
   rest d h n m =
       let p : (x : ℕ) → S x → d ≢ opposite t x = λ x s z. m (subst S (sym (opp-of L x d (six-live x s) h (sym z))) s) in
-      let p5 : d ≢ opposite t c5 = p c5 (is10 refl) in
-      let p0 : d ≢ opposite t c0 = p c0 (is26 refl) in
-      let p2 : d ≢ opposite t c2 = p c2 (is25 refl) in
-      let p3 : d ≢ opposite t c3 = p c3 (is11 refl) in
+      let p5 : d ≢ opposite t c5 = p c5 (is5 refl) in
+      let p0 : d ≢ opposite t c0 = p c0 (is0 refl) in
+      let p2 : d ≢ opposite t c2 = p c2 (is2 refl) in
+      let p3 : d ≢ opposite t c3 = p c3 (is3 refl) in
       co-at d h ∙ simp moves
 
   -- the vertices afterwards
@@ -290,12 +291,12 @@ module _ (t : Table) (Z : Shaped t) (W : WellFormed t) (c1 c2 c0 c4 c5 c3 : ℕ)
       (W .cornerLive v h, the-flip .wrest (corner t v) (W .cornerLive v h) (off a b c e) ∙ W .cornerOwn v h)))))
     where
       off : v ≢ vertex t c4 → v ≢ vertex t c2 → v ≢ vertex t c1 → v ≢ vertex t c0 → ¬ S (corner t v)
-      off a b c e (is24 z) = c (cc (W .cornerOwn v h))
-      off a b c e (is25 z) = b (cc (W .cornerOwn v h))
-      off a b c e (is26 z) = e (cc (W .cornerOwn v h))
-      off a b c e (is9 z) = a (cc (W .cornerOwn v h))
-      off a b c e (is10 z) = e (cc (W .cornerOwn v h, L .tail c1 (A .alive) (A .t1)))
-      off a b c e (is11 z) = b (cc (W .cornerOwn v h, L .head c1 (A .alive) (A .t1)))
+      off a b c e (is1 z) = c (cc (W .cornerOwn v h))
+      off a b c e (is2 z) = b (cc (W .cornerOwn v h))
+      off a b c e (is0 z) = e (cc (W .cornerOwn v h))
+      off a b c e (is4 z) = a (cc (W .cornerOwn v h))
+      off a b c e (is5 z) = e (cc (W .cornerOwn v h, L .tail c1 (A .alive) (A .t1)))
+      off a b c e (is3 z) = b (cc (W .cornerOwn v h, L .head c1 (A .alive) (A .t1)))
 
   unfoldable pub flipped : Table
   flipped = table cv′ co′ (t .cornerMark) vc′ (t .vertexMark) (t .vertexPoint) (t .vertices) (t .corners)
@@ -311,7 +312,7 @@ module _ (t : Table) (Z : Shaped t) (W : WellFormed t) (c1 c2 c0 c4 c5 c3 : ℕ)
   flipped-wf : WellFormed flipped
   unfolding flipped Named
   flipped-wf =
-      let L′ : Linked (Live t) (λ d. getD co′ d absent) (λ d. getD cv′ d 0) = flip-linked L A the-flip in
+      let L′ : Linked (Live t) (λ d. getD co′ d absent) (λ d. getD cv′ d 0) = flip-linked L A wings the-flip in
       let named : (v : ℕ) → LiveVertex t v → Live t (getD vc′ v absent) = λ v h. rw (vc-at v h) (naming v h .0) in
       let names : (v : ℕ) → LiveVertex t v → getD cv′ (getD vc′ v absent) 0 ≡ v = λ v h. rw (vc-at v h) (naming v h .1) in
       record {
@@ -327,17 +328,10 @@ module _ (t : Table) (Z : Shaped t) (W : WellFormed t) (c1 c2 c0 c4 c5 c3 : ℕ)
         cornerLive = named;
         cornerOwn = names;
         finite = W .finite;
-        oneFan = fan-table flipped (flip-fan L A the-flip (table-fan t Z W)) new-vertex named names L′;
+        oneFan = fan-table flipped (flip-fan L A wings the-flip (table-fan t Z W)) new-vertex named names L′;
       }
 
 -- a flip that isn't refused keeps the table well-formed
 pub flip-wf : (t : Table) → Shaped t → WellFormed t → (c : ℕ) → Live t c → opposite t c ≢ absent → vertex t c ≢ vertex t (opposite t c) → WellFormed (flipEdge t c)
 unfolding flipEdge around flipVertices flipOpposites flipCorners flipped co′ cv′ vc′
-flip-wf t Z W c h n v = flipped-wf t Z W c (next c) (next (next c)) (opposite t c) (next (opposite t c)) (next (next (opposite t c))) (record {
-  f = face3 c (next c) (next (next c)) refl refl;
-  g = face3 (opposite t c) (next (opposite t c)) (next (next (opposite t c))) refl refl;
-  alive = h;
-  o1 = refl;
-  t1 = n;
-  wings = v;
-})
+flip-wf t Z W c h n v = flipped-wf t Z W c (next c) (next (next c)) (opposite t c) (next (opposite t c)) (next (next (opposite t c))) (site (opposite t) c h n) v

@@ -1,5 +1,6 @@
 -- What each edit keeps.
 pub mod SplitFace
+pub mod Site
 pub mod Collapse
 pub mod Flip
 pub mod SplitInner

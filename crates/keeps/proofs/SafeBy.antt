@@ -12,7 +12,7 @@ use Rattle.fan.proofs.Tables.{table-linked}
 use Rattle.edge_collapse.specs.EdgeCollapse.{affectsBoundary, unsafe}
 use Rattle.edge_collapse.specs.Paper.{ThirdFace}
 use Rattle.edge_collapse.proofs.Paper.{unaffected, inner, safe}
-use Rattle.keeps.proofs.Collapse.{Six, is24, is25, is26, is9, is10, is11}
+use Rattle.keeps.proofs.Collapse.{Six, is1, is2, is0, is4, is5, is3}
 use Rattle.keeps.proofs.CollapseTable.{Safe}
 
 module _ (t : Table) (Z : Shaped t) (W : WellFormed t) (c : ℕ) (l : Live t c) (e : affectsBoundary t c ≡ false) (s : unsafe t c ≡ false)
@@ -45,17 +45,17 @@ module _ (t : Table) (Z : Shaped t) (W : WellFormed t) (c : ℕ) (l : Live t c) 
   off d n z = go (in-face c d z)
     where
       go : InFace c d → ⊥
-      go (itself q) = n (is24 q)
-      go (after q) = n (is25 q)
-      go (before q) = n (is26 (q ∙ sym (next-next c)))
+      go (itself q) = n (is1 q)
+      go (after q) = n (is2 q)
+      go (before q) = n (is0 (q ∙ sym (next-next c)))
 
   off′ : (d : ℕ) → ¬ S d → d / 3 ≢ c4 / 3
   off′ d n z = go (in-face c4 d z)
     where
       go : InFace c4 d → ⊥
-      go (itself q) = n (is9 q)
-      go (after q) = n (is10 q)
-      go (before q) = n (is11 (q ∙ sym (next-next c4)))
+      go (itself q) = n (is4 q)
+      go (after q) = n (is5 q)
+      go (before q) = n (is3 (q ∙ sym (next-next c4)))
 
   no-third : ThirdFace (Live t) (opposite t) (vertex t) c → ⊥
   no-third = safe t Z W c l e s .0

@@ -10,6 +10,7 @@ use Rattle.corner.specs.Corner.{absent}
 use Rattle.table.specs.Rules.{Mate}
 use Rattle.fan.proofs.Fan.{Left, Conn, stay, fore, conn-trans, conn-sym, conn-eq, Linked, OneFan, mate-sym, mate-at, linked, face-previous, opp-not-self, opp-not-next, opp-of}
 use Rattle.keeps.proofs.SplitFace.{Face3}
+use Rattle.keeps.proofs.Site.{Site, l2, l0, l4, l5, l3, b4, e0, e2, d12, d20, d34, x0-1, x1-5, x4-5, x2-3, x0-4, x0-5}
 use Rattle.keeps.proofs.Seats.{Seat, moved-fan}
 use Rattle.fan.proofs.Redirect.{at, at-same, at-other}
 
@@ -25,14 +26,6 @@ in-six Q a b c e f g eb ec ee ef eg qa qb qc qe qf qg d l h = go (ℕ-discrete d
     go (no n) (no m) (no k) (yes z) s = subst Q (sym z) qe
     go (no n) (no m) (no k) (no j) (yes z) = subst Q (sym z) qf
     go (no n) (no m) (no k) (no j) (no i) = subst Q (omega arith) qg
-
--- where an inner edge is split. Faces c1 c2 c0 and c4 c5 c3, c4 opposite c1
-pub record SplitSite (live : ℕ → Type 0) (opp vtx : ℕ → ℕ) (c1 c2 c0 c4 c5 c3 : ℕ) : Type 0 where
-  pub f : Face3 c1 c2 c0
-  pub g : Face3 c4 c5 c3
-  pub alive : live c1
-  pub o1 : opp c1 ≡ c4
-  pub t1 : opp c1 ≢ absent
 
 -- what it writes: new faces c6 c7 c8 and c9 c10 c11, and the vertex u
 pub record Split (live live′ : ℕ → Type 0) (opp opp′ vtx vtx′ : ℕ → ℕ) (c1 c2 c0 c4 c5 c3 c6 c7 c8 c9 c10 c11 u : ℕ) : Type 0 where
@@ -79,77 +72,23 @@ pub record Split (live live′ : ℕ → Type 0) (opp opp′ vtx vtx′ : ℕ �
   pub wu : (d : ℕ) → live d → d ≢ c2 → d ≢ c3 → vtx d ≡ vtx c2 → vtx′ d ≡ u
   pub wr : (d : ℕ) → live d → vtx d ≢ vtx c2 → vtx′ d ≡ vtx d
 
-module _ {live : ℕ → Type 0} {opp vtx : ℕ → ℕ} {c1 c2 c0 c4 c5 c3 : ℕ} (L : Linked live opp vtx) (A : SplitSite live opp vtx c1 c2 c0 c4 c5 c3) where
-  pub l2 : live c2
-  l2 = subst live (A .f .n0) (L .face c1 (A .alive))
-
-  pub l0 : live c0
-  l0 = subst live (A .f .n1) (L .face c2 l2)
-
-  pub l4 : live c4
-  l4 = subst live (A .o1) (L .over c1 (A .alive) (A .t1))
-
-  pub l5 : live c5
-  l5 = subst live (A .g .n0) (L .face c4 l4)
-
-  pub l3 : live c3
-  l3 = subst live (A .g .n1) (L .face c5 l5)
-
-  pub b4 : opp c4 ≡ c1
-  b4 = opp-of L c1 c4 (A .alive) l4 (A .o1)
-
-  pub v5 : vtx c5 ≡ vtx c0
-  v5 = cc (L .tail c1 (A .alive) (A .t1))
-
-  pub v3 : vtx c3 ≡ vtx c2
-  v3 = cc (L .head c1 (A .alive) (A .t1))
-
-  pub d12 : vtx c1 ≢ vtx c2
-  d12 z = L .differ c1 (A .alive) (cc)
-
-  pub d20 : vtx c2 ≢ vtx c0
-  d20 z = L .differ c2 l2 (cc)
-
-  pub d01 : vtx c0 ≢ vtx c1
-  d01 z = L .differ c0 l0 (cc)
-
-  pub d45 : vtx c4 ≢ vtx c5
-  d45 z = L .differ c4 l4 (cc)
-
+module _ {live : ℕ → Type 0} {opp vtx : ℕ → ℕ} {c1 c2 c0 c4 c5 c3 : ℕ} (L : Linked live opp vtx) (A : Site live opp c1 c2 c0 c4 c5 c3) where
+  -- both wings differ from the moved vertex
   pub d42 : vtx c4 ≢ vtx c2
-  d42 z = L .differ c3 l3 (cc (v3))
-
-  -- c1 and c4 are no ends of the split edge's outer sides
-  pub x1-0 : c1 ≢ c0
-  x1-0 z = d01 (cc)
-
-  pub x1-5 : c1 ≢ c5
-  x1-5 z = d01 (cc (v5))
-
-  pub x4-5 : c4 ≢ c5
-  x4-5 z = d45 (cc)
-
-  pub x4-0 : c4 ≢ c0
-  x4-0 z = d45 (cc (v5))
-
-  pub x0-5 : c0 ≢ c5
-  x0-5 z = d42 (cc)
-
-  pub x2-3 : c2 ≢ c3
-  x2-3 z = d01 (cc (v5))
+  d42 z = d34 L A (e2 L A ∙ sym z)
 
   module _ {live′ : ℕ → Type 0} {opp′ vtx′ : ℕ → ℕ} {c6 c7 c8 c9 c10 c11 u : ℕ} (C : Split live live′ opp opp′ vtx vtx′ c1 c2 c0 c4 c5 c3 c6 c7 c8 c9 c10 c11 u) where
     u1 : vtx′ c1 ≡ vtx c1
-    u1 = C .wr c1 (A .alive) d12
+    u1 = C .wr c1 (A .alive) (d12 L A)
 
     u4 : vtx′ c4 ≡ vtx c4
-    u4 = C .wr c4 l4 d42
+    u4 = C .wr c4 (l4 L A) d42
 
     u0 : vtx′ c0 ≡ vtx c0
-    u0 = C .wr c0 l0 (λ z. d20 (sym z))
+    u0 = C .wr c0 (l0 L A) (λ z. d20 L A (sym z))
 
     u5 : vtx′ c5 ≡ vtx c0
-    u5 = C .wr c5 l5 (λ z. d20 (cc (v5))) ∙ v5
+    u5 = C .wr c5 (l5 L A) (λ z. d20 L A (cc (e0 L A))) ∙ e0 L A
 
     next-not2 : (y : ℕ) → y ≢ c1 → next y ≢ c2
     next-not2 y h z = h (cc (previous-next y))
@@ -184,46 +123,46 @@ module _ {live : ℕ → Type 0} {opp vtx : ℕ → ℕ} {c1 c2 c0 c4 c5 c3 : �
     m610 = record { over = C .l10; pair = C .n10; tail = cc; head = cc }
 
     o1′ : opp′ c1 ≡ c4
-    o1′ = C .rest c1 (A .alive) x1-0 x1-5 (λ z. x4-0 (cc)) (λ z. x4-5 (cc)) ∙ A .o1
+    o1′ = C .rest c1 (A .alive) (Ne·symm (x0-1 L A)) (x1-5 L A) (λ z. x0-4 L A (cc)) (λ z. x4-5 L A (cc)) ∙ A .o1
 
     o4′ : opp′ c4 ≡ c1
-    o4′ = C .rest c4 l4 x4-0 x4-5 (λ z. x1-0 (cc (b4))) (λ z. x1-5 (cc (b4))) ∙ b4
+    o4′ = C .rest c4 (l4 L A) (Ne·symm (x0-4 L A)) (x4-5 L A) (λ z. x0-1 L A (cc (b4 L A))) (λ z. x1-5 L A (cc (b4 L A))) ∙ b4 L A
 
     m14 : Mate live′ opp′ vtx′ c1 c4
-    m14 = record { over = C .grow c4 l4; pair = o4′; tail = cc (u5, u0); head = cc }
+    m14 = record { over = C .grow c4 (l4 L A); pair = o4′; tail = cc (u5, u0); head = cc }
 
     out0 : (d : ℕ) → live d → d ≢ c5 → opp d ≡ c0 → Mate live′ opp′ vtx′ d c8
     out0 d h n o =
-        let t : opp d ≢ absent = λ z. L .present c0 l0 (sym o ∙ z) in
-        let b : opp c0 ≡ d = opp-of L d c0 h l0 o in
+        let t : opp d ≢ absent = λ z. L .present c0 (l0 L A) (sym o ∙ z) in
+        let b : opp c0 ≡ d = opp-of L d c0 h (l0 L A) o in
         let q : vtx (previous d) ≡ vtx c1 = cc (L .tail d h t) in
         let r : vtx (next d) ≡ vtx c2 = cc (L .head d h t) in
-        let x : d ≢ c1 = λ z. x4-0 (cc) in
+        let x : d ≢ c1 = λ z. x0-4 L A (cc) in
         record {
           over = C .l8;
           pair = C .n8 (λ z. n (sym b ∙ z)) ∙ b;
-          tail = cc (C .wr (previous d) (face-previous L d h) (λ z. d12 (sym q ∙ z)));
+          tail = cc (C .wr (previous d) (face-previous L d h) (λ z. d12 L A (sym q ∙ z)));
           head = cc (C .wu (next d) (L .face d h) (next-not2 d x) (next-not3 d n) r);
         }
 
     out5 : (d : ℕ) → live d → d ≢ c0 → opp d ≡ c5 → Mate live′ opp′ vtx′ d c11
     out5 d h n o =
-        let t : opp d ≢ absent = λ z. L .present c5 l5 (sym o ∙ z) in
-        let b : opp c5 ≡ d = opp-of L d c5 h l5 o in
-        let q : vtx (previous d) ≡ vtx c2 = cc (L .tail d h t, v3) in
+        let t : opp d ≢ absent = λ z. L .present c5 (l5 L A) (sym o ∙ z) in
+        let b : opp c5 ≡ d = opp-of L d c5 h (l5 L A) o in
+        let q : vtx (previous d) ≡ vtx c2 = cc (L .tail d h t, e2 L A) in
         let r : vtx (next d) ≡ vtx c4 = cc (L .head d h t) in
-        let x : d ≢ c4 = λ z. x1-5 (cc (b4)) in
+        let x : d ≢ c4 = λ z. x1-5 L A (cc (b4 L A)) in
         record {
           over = C .l11;
-          pair = C .n11 (λ z. n (sym b ∙ opp-of L c0 c5 l0 l5 z)) ∙ b;
+          pair = C .n11 (λ z. n (sym b ∙ opp-of L c0 c5 (l0 L A) (l5 L A) z)) ∙ b;
           tail = cc (C .wu (previous d) (face-previous L d h) (previous-not2 d n) (previous-not3 d x) q);
           head = cc (C .wr (next d) (L .face d h) (λ z. d42 (sym r ∙ z)));
         }
 
     m811 : opp c0 ≡ c5 → Mate live′ opp′ vtx′ c8 c11
     m811 e =
-        let t : opp c0 ≢ absent = λ z. L .present c5 l5 (sym e ∙ z) in
-        record { over = C .l11; pair = C .n11′ e; tail = cc; head = cc (L .head c0 l0 t) }
+        let t : opp c0 ≢ absent = λ z. L .present c5 (l5 L A) (sym e ∙ z) in
+        record { over = C .l11; pair = C .n11′ e; tail = cc; head = cc (L .head c0 (l0 L A) t) }
 
     -- an old corner against the two outer sides
     data Spot (d : ℕ) : Type 0 where
@@ -260,7 +199,7 @@ module _ {live : ℕ → Type 0} {opp vtx : ℕ → ℕ} {c1 c2 c0 c4 c5 c3 : �
             let y′ : live (opp d) = L .over d h t′ in
             let q : opp (opp d) ≡ d = L .pair d h t′ in
             let p1 : opp d ≢ c1 = λ x. z (sym q ∙ ap opp x ∙ A .o1) in
-            let p4 : opp d ≢ c4 = λ x. y (sym q ∙ ap opp x ∙ b4) in
+            let p4 : opp d ≢ c4 = λ x. y (sym q ∙ ap opp x ∙ b4 L A) in
             mate-at d (opp d) r (record {
               over = C .grow (opp d) y′;
               pair = C .rest (opp d) y′ c e (λ x. a (sym q ∙ x)) (λ x. b (sym q ∙ x)) ∙ q;
@@ -277,8 +216,8 @@ module _ {live : ℕ → Type 0} {opp vtx : ℕ → ℕ} {c1 c2 c0 c4 c5 c3 : �
         go (no n) =
             let r : opp′ c8 ≡ opp c0 = C .n8 n in
             let t′ : opp c0 ≢ absent = rw r at t in
-            let y : live (opp c0) = L .over c0 l0 t′ in
-            let q : opp (opp c0) ≡ c0 = L .pair c0 l0 t′ in
+            let y : live (opp c0) = L .over c0 (l0 L A) t′ in
+            let q : opp (opp c0) ≡ c0 = L .pair c0 (l0 L A) t′ in
             mate-at c8 (opp c0) r (mate-sym (C .grow (opp c0) y) (C .over0 (opp c0) y n q) (out0 (opp c0) y n q))
 
     mate11 : Mated c11
@@ -290,8 +229,8 @@ module _ {live : ℕ → Type 0} {opp vtx : ℕ → ℕ} {c1 c2 c0 c4 c5 c3 : �
         go (no n) =
             let r : opp′ c11 ≡ opp c5 = C .n11 n in
             let t′ : opp c5 ≢ absent = rw r at t in
-            let y : live (opp c5) = L .over c5 l5 t′ in
-            let q : opp (opp c5) ≡ c5 = L .pair c5 l5 t′ in
+            let y : live (opp c5) = L .over c5 (l5 L A) t′ in
+            let q : opp (opp c5) ≡ c5 = L .pair c5 (l5 L A) t′ in
             let n′ : opp c5 ≢ c0 = λ z. n (cc) in
             mate-at c11 (opp c5) r (mate-sym (C .grow (opp c5) y) (C .over5 (opp c5) y n′ q) (out5 (opp c5) y n′ q))
 
@@ -338,10 +277,10 @@ module _ {live : ℕ → Type 0} {opp vtx : ℕ → ℕ} {c1 c2 c0 c4 c5 c3 : �
         (each (λ d. live′ (next d)) (λ d m. C .grow (next d) (L .face d m)) (rw (C .h .n0) (C .l7)) (rw (C .h .n1) (C .l8)) (rw (C .h .n2) (C .l6))
         (rw (C .k .n0) (C .l10)) (rw (C .k .n1) (C .l11)) (rw (C .k .n2) (C .l9)))
         (each (λ d. vtx′ d ≢ vtx′ (next d)) differs-old
-        (λ z. C .fresh c1 (A .alive) (cc)) (λ z. C .fresh c2 l2 (cc)) (λ z. d12 (cc)) (λ z. C .fresh c4 l4 (cc)) (λ z. d42 (cc)) (λ z. C .fresh c2 l2 (cc)))
+        (λ z. C .fresh c1 (A .alive) (cc)) (λ z. C .fresh c2 (l2 L A) (cc)) (λ z. d12 L A (cc)) (λ z. C .fresh c4 (l4 L A) (cc)) (λ z. d42 (cc)) (λ z. C .fresh c2 (l2 L A) (cc)))
         (each Mated mate-old
-        (λ t. mate-at c6 c10 (C .n6) m610) (λ t. mate-at c7 c0 (C .n7) (mate-sym (C .grow c0 l0) (C .n0) m07)) mate8
-        (λ t. mate-at c9 c5 (C .n9) (mate-sym (C .grow c5 l5) (C .n5) m59)) (λ t. mate-at c10 c6 (C .n10) (mate-sym (C .l6) (C .n6) m610)) mate11)
+        (λ t. mate-at c6 c10 (C .n6) m610) (λ t. mate-at c7 c0 (C .n7) (mate-sym (C .grow c0 (l0 L A)) (C .n0) m07)) mate8
+        (λ t. mate-at c9 c5 (C .n9) (mate-sym (C .grow c5 (l5 L A)) (C .n5) m59)) (λ t. mate-at c10 c6 (C .n10) (mate-sym (C .l6) (C .n6) m610)) mate11)
 
     -- R5
     φ : ℕ → ℕ
@@ -353,7 +292,7 @@ module _ {live : ℕ → Type 0} {opp vtx : ℕ → ℕ} {c1 c2 c0 c4 c5 c3 : �
 
     φ3 : φ c3 ≡ c9
     unfolding φ
-    φ3 = simp (at-other, at-same, Ne·symm x2-3)
+    φ3 = simp (at-other, at-same, Ne·symm (x2-3 L A))
 
     φ-off : (d : ℕ) → d ≢ c2 → d ≢ c3 → φ d ≡ d
     unfolding φ
@@ -366,10 +305,10 @@ module _ {live : ℕ → Type 0} {opp vtx : ℕ → ℕ} {c1 c2 c0 c4 c5 c3 : �
     h97 = hop c9 c10 c6 c7 (C .l9) (C .k .n0) (C .n10) (C .l6) (C .h .n0)
 
     h61 : Conn (Left live′ opp′) c6 c1
-    h61 = hop c6 c7 c0 c1 (C .l6) (C .h .n0) (C .n7) (C .grow c0 l0) (A .f .n2)
+    h61 = hop c6 c7 c0 c1 (C .l6) (C .h .n0) (C .n7) (C .grow c0 (l0 L A)) (A .f .n2)
 
     h410 : Conn (Left live′ opp′) c4 c10
-    h410 = hop c4 c5 c9 c10 (C .grow c4 l4) (A .g .n0) (C .n5) (C .l9) (C .k .n0)
+    h410 = hop c4 c5 c9 c10 (C .grow c4 (l4 L A)) (A .g .n0) (C .n5) (C .l9) (C .k .n0)
 
     step : (d e : ℕ) → Left live opp d e → Conn (Left live′ opp′) (φ d) (φ e)
     step d e s = go (spot (next d)) (ℕ-discrete d c3)
@@ -391,10 +330,10 @@ module _ {live : ℕ → Type 0} {opp vtx : ℕ → ℕ} {c1 c2 c0 c4 c5 c3 : �
 
         -- where a step over c0 or c5 lands
         lands0 : opp c0 ≢ absent → next (opp c0) ≡ e → opp c0 ≢ c5 → φ e ≡ e
-        lands0 t′ l′ n = φ-off e (rw (← l′) (next-not2 (opp c0) (λ z. opp-not-next L c0 l0 t′ (z ∙ sym (A .f .n2))))) (rw (← l′) (next-not3 (opp c0) n))
+        lands0 t′ l′ n = φ-off e (rw (← l′) (next-not2 (opp c0) (λ z. opp-not-next L c0 (l0 L A) t′ (z ∙ sym (A .f .n2))))) (rw (← l′) (next-not3 (opp c0) n))
 
         lands5 : opp c5 ≢ absent → next (opp c5) ≡ e → φ e ≡ e
-        lands5 t′ l′ = φ-off e (rw (← l′) (next-not2 (opp c5) (λ z. x4-5 (cc (L .pair c5 l5 t′))))) (rw (← l′) (next-not3 (opp c5) (opp-not-self L c5 l5 t′)))
+        lands5 t′ l′ = φ-off e (rw (← l′) (next-not2 (opp c5) (λ z. x4-5 L A (cc (L .pair c5 (l5 L A) t′))))) (rw (← l′) (next-not3 (opp c5) (opp-not-self L c5 (l5 L A) t′)))
 
         go : Spot (next d) → Dec (d ≡ c3) → Conn (Left live′ opp′) (φ d) (φ e)
         go (is0 h) y = at′ (ℕ-discrete (opp c0) c5)
@@ -409,14 +348,14 @@ module _ {live : ℕ → Type 0} {opp vtx : ℕ → ℕ} {c1 c2 c0 c4 c5 c3 : �
             at′ (no z) =
                 let t′ : opp c0 ≢ absent = rw h at t in
                 let l′ : next (opp c0) ≡ e = rw h at l in
-                rw (dd, φ2, lands0 t′ l′ z) (hop c7 c8 (opp c0) e (C .l7) (C .h .n1) (C .n8 z) (C .grow (opp c0) (L .over c0 l0 t′)) l′)
+                rw (dd, φ2, lands0 t′ l′ z) (hop c7 c8 (opp c0) e (C .l7) (C .h .n1) (C .n8 z) (C .grow (opp c0) (L .over c0 (l0 L A) t′)) l′)
         go (is5 h) y = at′ (ℕ-discrete (opp c0) c5)
           where
             dd : d ≡ c4
             dd = cc (previous-next d)
 
             p : φ d ≡ c4
-            p = φ-off d (λ z. d42 (cc dd)) (λ z. d42 (cc (dd, v3))) ∙ dd
+            p = φ-off d (λ z. d42 (cc dd)) (λ z. d42 (cc (dd, e2 L A))) ∙ dd
 
             t′ : opp c5 ≢ absent
             t′ = rw h at t
@@ -426,21 +365,21 @@ module _ {live : ℕ → Type 0} {opp vtx : ℕ → ℕ} {c1 c2 c0 c4 c5 c3 : �
 
             at′ : Dec (opp c0 ≡ c5) → Conn (Left live′ opp′) (φ d) (φ e)
             at′ (yes z) =
-                let ee : e ≡ c1 = cc (l′, opp-of L c0 c5 l0 l5 z) in
+                let ee : e ≡ c1 = cc (l′, opp-of L c0 c5 (l0 L A) (l5 L A) z) in
                 rw (p, lands5 t′ l′, ee) (conn-trans h410 (conn-trans (hop c10 c11 c8 c6 (C .l10) (C .k .n1) (C .n11′ z) (C .l8) (C .h .n2)) h61))
             at′ (no z) =
-                rw (p, lands5 t′ l′) (conn-trans h410 (hop c10 c11 (opp c5) e (C .l10) (C .k .n1) (C .n11 z) (C .grow (opp c5) (L .over c5 l5 t′)) l′))
+                rw (p, lands5 t′ l′) (conn-trans h410 (hop c10 c11 (opp c5) e (C .l10) (C .k .n1) (C .n11 z) (C .grow (opp c5) (L .over c5 (l5 L A) t′)) l′))
         go (by0 a b o) y =
             let ee : e ≡ c1 = cc l in
-            let p : φ d ≡ d = φ-off d (not2 a) (λ z. x1-0 (cc (b4))) in
-            let q : φ c1 ≡ c1 = φ-off c1 (λ z. d12 (cc)) (λ z. d12 (cc (v3))) in
+            let p : φ d ≡ d = φ-off d (not2 a) (λ z. x0-1 L A (cc (b4 L A))) in
+            let q : φ c1 ≡ c1 = φ-off c1 (λ z. d12 L A (cc)) (λ z. d12 L A (cc (e2 L A))) in
             rw (p, ee, q) (conn-trans (hop d (next d) c8 c6 (C .grow d (s .from)) refl (C .over0 (next d) x b o) (C .l8) (C .h .n2)) h61)
         go (by5 a b o) y =
             let ee : e ≡ c3 = cc l in
-            let p : φ d ≡ d = φ-off d (not2 a) (λ z. x1-5 (cc (b4))) in
+            let p : φ d ≡ d = φ-off d (not2 a) (λ z. x1-5 L A (cc (b4 L A))) in
             rw (p, ee, φ3) (hop d (next d) c11 c9 (C .grow d (s .from)) refl (C .over5 (next d) x a o) (C .l11) (C .k .n2))
         go (far a b o q) (yes y) =
-            let ee : e ≡ c2 = cc (l, b4) in
+            let ee : e ≡ c2 = cc (l, b4 L A) in
             rw (y, φ3, ee, φ2) h97
         go (far a b o q) (no y) =
             let p : φ d ≡ d = φ-off d (not2 a) y in
@@ -449,7 +388,7 @@ module _ {live : ℕ → Type 0} {opp vtx : ℕ → ℕ} {c1 c2 c0 c4 c5 c3 : �
             rw (p, r) (hop d (next d) (opp (next d)) e (C .grow d (s .from)) refl (C .rest (next d) x a b o q) (C .grow (opp (next d)) (L .over (next d) x t)) l)
 
     h32 : Conn (Left live′ opp′) c3 c2
-    h32 = hop c3 c4 c1 c2 (C .grow c3 l3) (A .g .n2) o4′ (C .grow c1 (A .alive)) (A .f .n0)
+    h32 = hop c3 c4 c1 c2 (C .grow c3 (l3 L A)) (A .g .n2) o4′ (C .grow c1 (A .alive)) (A .f .n0)
 
     abbrev Place : ℕ → Type 0
     Place = Seat live live′ opp′ vtx vtx′ c2 u φ
@@ -459,21 +398,21 @@ module _ {live : ℕ → Type 0} {opp vtx : ℕ → ℕ} {c1 c2 c0 c4 c5 c3 : �
         (inr (record {
           o = c1;
           lives = A .alive;
-          new = λ z. absurd (d12 z);
+          new = λ z. absurd (d12 L A z);
           kept = λ z. C .w6;
-          near = rw (φ-off c1 (λ z. d12 (cc)) (λ z. d12 (cc (v3)))) h61;
+          near = rw (φ-off c1 (λ z. d12 L A (cc)) (λ z. d12 L A (cc (e2 L A)))) h61;
         }))
-        (inr (record { o = c2; lives = l2; new = λ z. C .w7; kept = λ n. absurd (n refl); near = rw φ2 stay }))
-        (inl (C .w8, conn-sym (hop c2 c0 c7 c8 (C .grow c2 l2) (A .f .n1) (C .n0) (C .l7) (C .h .n1))))
-        (inr (record { o = c3; lives = l3; new = λ z. C .w9; kept = λ n. absurd (n v3); near = rw φ3 stay }))
+        (inr (record { o = c2; lives = l2 L A; new = λ z. C .w7; kept = λ n. absurd (n refl); near = rw φ2 stay }))
+        (inl (C .w8, conn-sym (hop c2 c0 c7 c8 (C .grow c2 (l2 L A)) (A .f .n1) (C .n0) (C .l7) (C .h .n1))))
+        (inr (record { o = c3; lives = l3 L A; new = λ z. C .w9; kept = λ n. absurd (n (e2 L A)); near = rw φ3 stay }))
         (inr (record {
           o = c4;
-          lives = l4;
+          lives = l4 L A;
           new = λ z. absurd (d42 z);
           kept = λ z. C .w10;
-          near = rw (φ-off c4 (λ z. d42 (cc)) (λ z. d42 (cc (v3)))) (conn-sym h410);
+          near = rw (φ-off c4 (λ z. d42 (cc)) (λ z. d42 (cc (e2 L A)))) (conn-sym h410);
         }))
-        (inl (C .w11, conn-trans (hop c11 c9 c5 c3 (C .l11) (C .k .n2) (C .n9) (C .grow c5 l5) (A .g .n1)) h32))
+        (inl (C .w11, conn-trans (hop c11 c9 c5 c3 (C .l11) (C .k .n2) (C .n9) (C .grow c5 (l5 L A)) (A .g .n1)) h32))
       where
         old : (d : ℕ) → live d → Place d
         old d h = go (ℕ-discrete d c2) (ℕ-discrete d c3)
@@ -484,4 +423,4 @@ module _ {live : ℕ → Type 0} {opp vtx : ℕ → ℕ} {c1 c2 c0 c4 c5 c3 : �
             go (no n) (no m) = inr (record { o = d; lives = h; new = C .wu d h n m; kept = C .wr d h; near = conn-eq (sym (φ-off d n m)) })
 
     pub split-fan : OneFan live opp vtx → OneFan live′ opp′ vtx′
-    split-fan = moved-fan live live′ opp′ vtx vtx′ c2 u φ opp l2 (C .fresh) step seat
+    split-fan = moved-fan live live′ opp′ vtx vtx′ c2 u φ opp (l2 L A) (C .fresh) step seat

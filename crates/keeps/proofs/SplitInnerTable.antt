@@ -30,10 +30,11 @@ use Rattle.fan.proofs.Tables.{table-linked, table-fan, fan-table, inside}
 use Rattle.keeps.proofs.Writes.{paired-seen, push6, push6-seen, push6-old, six-push6}
 use Rattle.keeps.proofs.NewFaces.{grow, fresh, shrink, corner-marks, face-marks, next6, next7, next9, next10}
 use Rattle.keeps.proofs.NewVertex.{LiveV1, old-vertex, new-one, was-vertex, vertex-marks, split-finite}
-use Rattle.keeps.proofs.SplitInner.{SplitSite, Split, split-linked, split-fan, in-six, l2, l0, l4, l5, l3, v3, x0-5}
+use Rattle.keeps.proofs.Site.{Site, l2, l0, l4, l5, l3, e2, x0-5}
+use Rattle.keeps.proofs.SplitInner.{Split, split-linked, split-fan, in-six}
 
 module _ (t : Table) (Z : Shaped t) (W : WellFormed t) (room : t .corners + 6 ≤ length (t .cornerMark)) (vroom : t .vertices + 1 ≤ length (t .vertexMark))
-    (c1 c2 c0 c4 c5 c3 : ℕ) (A : SplitSite (Live t) (opposite t) (vertex t) c1 c2 c0 c4 c5 c3)
+    (c1 c2 c0 c4 c5 c3 : ℕ) (A : Site (Live t) (opposite t) c1 c2 c0 c4 c5 c3)
     (vp′ : List Float) (good : (v : ℕ) → LiveV1 t v → finitePoint (pointAt vp′ v) ≡ true) where
   abbrev pub n : ℕ
   n = t .corners
@@ -245,7 +246,7 @@ module _ (t : Table) (Z : Shaped t) (W : WellFormed t) (room : t .corners + 6 �
 
     w3 : getD cv′ c3 0 ≡ vertex t c2
     unfolding cv′ cs
-    w3 = relabel-out cs u cv0 c3 0 (λ z. among c3 z .1 .1 refl) ∙ cv-old c3 (l3 L A .0) ∙ v3 L A
+    w3 = relabel-out cs u cv0 c3 0 (λ z. among c3 z .1 .1 refl) ∙ cv-old c3 (l3 L A .0) ∙ e2 L A
 
     wu : (d : ℕ) → Live t d → d ≢ c2 → d ≢ c3 → vertex t d ≡ vertex t c2 → getD cv′ d 0 ≡ u
     unfolding cv′ cs
@@ -394,7 +395,7 @@ pub split-wf : (t : Table) → Shaped t → WellFormed t → t .corners + 6 ≤ 
     → (c : ℕ) → Live t c → opposite t c ≢ absent → (at : Point) → finitePoint at ≡ true → WellFormed (splitInnerEdge t c at)
 unfolding splitInnerEdge around innerVertices innerOpposites splitCorners cs cv0 cv′ co0 o1 b5 co′ vc′
 split-wf t Z W r s c h m at f =
-    let A : SplitSite (Live t) (opposite t) (vertex t) c (next c) (next (next c)) (opposite t c) (next (opposite t c)) (next (next (opposite t c))) =
+    let A : Site (Live t) (opposite t) c (next c) (next (next c)) (opposite t c) (next (opposite t c)) (next (next (opposite t c))) =
     record {
       f = face3 c (next c) (next (next c)) refl refl;
       g = face3 (opposite t c) (next (opposite t c)) (next (next (opposite t c))) refl refl;
