@@ -1,12 +1,11 @@
 -- A flip keeps vertices, edges and faces. Assumes nothing.
-use mathlib.Core.Path.{_≡_, refl, ap, sym, _∙_}
+use mathlib.Core.Path.{_≡_, ap, sym, _∙_}
 use mathlib.Core.Logic.{_≢_, Ne·symm}
 use Prim.Native.Nat.{ℕ, _*_, _<_, _/_}
 use native.Mathlib.Omega.{arith}
 use Rattle.corner.specs.Corner.{next}
 use Rattle.corner.specs.Corner.{absent}
 use Rattle.fan.proofs.Fan.{Linked}
-use Rattle.keeps.proofs.SplitFace.{face3}
 use Rattle.keeps.proofs.Count.{sum, sum-ext, sum-round, ind, ind-iff}
 use Rattle.keeps.proofs.Site.{Six, is1, is2, is0, is4, is5, is3, six?, Site, site, l2, l0, l4, l5, l3, b4, x2-0, x2-3, x2-5, x0-5, x0-3, x5-3}
 use Rattle.keeps.proofs.Flip.{Flip, Out, by5, by0, by2, by3, far, out}

@@ -1,5 +1,5 @@
 -- Splitting an inner edge keeps vertices minus edges plus faces. Assumes nothing.
-use mathlib.Core.Path.{_≡_, refl, sym, _∙_, subst}
+use mathlib.Core.Path.{_≡_, sym, _∙_, subst}
 use mathlib.Core.Logic.{_≢_, _⊎_, inl, inr}
 use Prim.Native.Nat.{ℕ, suc, _+_, _-_, _*_, _≤_, _<_, _%_, _/_}
 use native.Mathlib.Omega.{arith}
@@ -8,10 +8,9 @@ use lib.ListN.{length}
 use Rattle.corner.specs.Corner.{next}
 use Rattle.corner.specs.Corner.{absent}
 use Rattle.fan.proofs.Fan.{Linked, opp-of}
-use Rattle.keeps.proofs.SplitFace.{face3}
 use Rattle.fan.proofs.Redirect.{at}
 use Rattle.keeps.proofs.Count.{sum, sum-one, sum-ext, sum-six, sum-two, ind, ind-yes, ind-no, ind-iff}
-use Rattle.keeps.proofs.Site.{Site, l0, l5, l2, x0-5}
+use Rattle.keeps.proofs.Site.{Site, site, l0, l5, l2, x0-5}
 use Rattle.keeps.proofs.SplitInner.{Split, split-linked}
 use Rattle.keeps.proofs.Euler.{same-euler, live?, bare, paired, bare?, paired?, liveV?, edges, faces, vertices}
 use Rattle.table.specs.Table.{Table, Live, opposite, vertex, Shaped}
@@ -145,13 +144,7 @@ pub split-euler : (t : Table) → Shaped t → WellFormed t → t .corners + 6 �
     → (c : ℕ) → Live t c → opposite t c ≢ absent → (at : Point) → finitePoint at ≡ true → SameEuler t (splitInnerEdge t c at)
 unfolding splitInnerEdge around innerVertices innerOpposites splitCorners cs cv0 cv′ co0 o1 b5 co′ vc′
 split-euler t Z W r s c h m at f =
-    let A : Site (Live t) (opposite t) c (next c) (next (next c)) (opposite t c) (next (opposite t c)) (next (next (opposite t c))) = record {
-      f = face3 c (next c) (next (next c)) refl refl;
-      g = face3 (opposite t c) (next (opposite t c)) (next (next (opposite t c))) refl refl;
-      alive = h;
-      o1 = refl;
-      t1 = m;
-    } in
+    let A = site (opposite t) c h m in
     let L : Linked (Live t) (opposite t) (vertex t) = table-linked t Z W in
     simp six-push6
     (same-euler t _

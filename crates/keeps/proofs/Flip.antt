@@ -3,12 +3,10 @@ use mathlib.Core.Path.{_≡_, refl, sym, _∙_, subst}
 use mathlib.Core.Logic.{_≢_, Ne·symm}
 use Prim.Native.Nat.{ℕ}
 use Rattle.corner.specs.Corner.{next, previous}
-use Rattle.corner.proofs.Turns.{next-next, next-previous}
 use Rattle.corner.specs.Corner.{absent}
 use Rattle.table.specs.Rules.{Mate}
-use Rattle.fan.proofs.Fan.{Left, Conn, stay, fore, conn-trans, conn-sym, conn-eq, simulate, Linked, OneFan, mate-sym, mate-at, linked, face-previous, opp-not-self, opp-not-next, opp-not-previous, opp-of}
-use Rattle.keeps.proofs.SplitFace.{Face3}
-use Rattle.keeps.proofs.Site.{Six, is1, is2, is0, is4, is5, is3, six?, Site, l2, l0, l4, l5, l3, b4, e0, e2, d12, d20, d01, d45, d34, x1-2, x2-0, x0-1, x4-5, x5-3, x3-4, x1-5, x1-3, x2-4, x2-5, x2-3, x0-4, x0-5, x0-3, six-next, off-previous, off-next}
+use Rattle.fan.proofs.Fan.{Left, Conn, stay, fore, conn-trans, conn-sym, conn-eq, simulate, Linked, OneFan, mate-sym, mate-at, linked, face-previous, opp-of}
+use Rattle.keeps.proofs.Site.{Six, is1, is2, is0, is4, is5, is3, six?, Site, l2, l0, l4, l5, l3, b4, e0, e2, d12, d01, d45, d34, x1-2, x2-0, x0-1, x4-5, x5-3, x3-4, x1-5, x1-3, x2-4, x2-5, x2-3, x0-4, x0-5, x0-3, off-previous, off-next, x1-4, s0, s2, s5, s3}
 use Rattle.fan.proofs.Redirect.{at, at-same, at-other}
 
 -- what it writes
@@ -36,42 +34,6 @@ module _ {live : ℕ → Type 0} {opp vtx : ℕ → ℕ} {c1 c2 c0 c4 c5 c3 : �
     (w : vtx c1 ≢ vtx c4) where
   abbrev pub S : ℕ → Type 0
   S d = Six c1 c2 c0 c4 c5 c3 d
-
-  pub x1-4 : c1 ≢ c4
-  x1-4 z = w (cc)
-
-  -- the outer opposites lie outside the two faces
-  pub s0 : opp c0 ≢ absent → ¬ S (opp c0)
-  s0 t (is1 h) = opp-not-next L c0 (l0 L A) t (cc)
-  s0 t (is2 h) = opp-not-previous L c0 (l0 L A) t (cc)
-  s0 t (is0 h) = opp-not-self L c0 (l0 L A) t h
-  s0 t (is4 h) = x0-1 L A (cc (L .pair c0 (l0 L A) t, b4 L A))
-  s0 t (is5 h) = w (cc (L .head c0 (l0 L A) t))
-  s0 t (is3 h) = d34 L A (cc (L .tail c0 (l0 L A) t, e2 L A))
-
-  pub s2 : opp c2 ≢ absent → ¬ S (opp c2)
-  s2 t (is1 h) = opp-not-previous L c2 (l2 L A) t (cc)
-  s2 t (is2 h) = opp-not-self L c2 (l2 L A) t h
-  s2 t (is0 h) = opp-not-next L c2 (l2 L A) t (cc)
-  s2 t (is4 h) = x1-2 L A (cc (L .pair c2 (l2 L A) t, b4 L A))
-  s2 t (is5 h) = d12 L A (cc (L .tail c2 (l2 L A) t, e2 L A))
-  s2 t (is3 h) = w (cc (L .tail c2 (l2 L A) t))
-
-  pub s5 : opp c5 ≢ absent → ¬ S (opp c5)
-  s5 t (is1 h) = x4-5 L A (cc (L .pair c5 (l5 L A) t))
-  s5 t (is2 h) = s2 (λ z. L .present c5 (l5 L A) (cc (L .pair c5 (l5 L A) t))) (is5 (cc (L .pair c5 (l5 L A) t)))
-  s5 t (is0 h) = s0 (λ z. L .present c5 (l5 L A) (cc (L .pair c5 (l5 L A) t))) (is5 (cc (L .pair c5 (l5 L A) t)))
-  s5 t (is4 h) = opp-not-previous L c5 (l5 L A) t (cc)
-  s5 t (is5 h) = opp-not-self L c5 (l5 L A) t h
-  s5 t (is3 h) = opp-not-next L c5 (l5 L A) t (cc)
-
-  pub s3 : opp c3 ≢ absent → ¬ S (opp c3)
-  s3 t (is1 h) = x3-4 L A (cc (L .pair c3 (l3 L A) t))
-  s3 t (is2 h) = s2 (λ z. L .present c3 (l3 L A) (cc (L .pair c3 (l3 L A) t))) (is3 (cc (L .pair c3 (l3 L A) t)))
-  s3 t (is0 h) = s0 (λ z. L .present c3 (l3 L A) (cc (L .pair c3 (l3 L A) t))) (is3 (cc (L .pair c3 (l3 L A) t)))
-  s3 t (is4 h) = opp-not-next L c3 (l3 L A) t (cc)
-  s3 t (is5 h) = opp-not-previous L c3 (l3 L A) t (cc)
-  s3 t (is3 h) = opp-not-self L c3 (l3 L A) t h
 
   module _ {opp′ vtx′ : ℕ → ℕ} (C : Flip live opp opp′ vtx vtx′ c1 c2 c0 c4 c5 c3) where
     -- a corner outside the two faces against them
@@ -131,11 +93,11 @@ module _ {live : ℕ → Type 0} {opp vtx : ℕ → ℕ} {c1 c2 c0 c4 c5 c3 : �
       where
         go : Dec (S d) → Mate live opp′ vtx′ d (opp′ d)
         go (yes (is1 e)) = mate-at d c4 (cc) (rw e m14)
-        go (yes (is2 e)) = subst Mated (sym e) (inner c0 c2 (l0 L A) (l2 L A) (C .n2) s0 (C .over0) (cc) (cc)) t
-        go (yes (is0 e)) = subst Mated (sym e) (inner c5 c0 (l5 L A) (l0 L A) (C .n0) s5 (C .over5) (cc (e2 L A)) (cc)) t
+        go (yes (is2 e)) = subst Mated (sym e) (inner c0 c2 (l0 L A) (l2 L A) (C .n2) (s0 L A w) (C .over0) (cc) (cc)) t
+        go (yes (is0 e)) = subst Mated (sym e) (inner c5 c0 (l5 L A) (l0 L A) (C .n0) (s5 L A w) (C .over5) (cc (e2 L A)) (cc)) t
         go (yes (is4 e)) = mate-at d c1 (cc) (rw e (mate-sym (A .alive) (C .n1) m14))
-        go (yes (is5 e)) = subst Mated (sym e) (inner c3 c5 (l3 L A) (l5 L A) (C .n5) s3 (C .over3) (cc) (cc (e0 L A))) t
-        go (yes (is3 e)) = subst Mated (sym e) (inner c2 c3 (l2 L A) (l3 L A) (C .n3) s2 (C .over2) (cc) (cc)) t
+        go (yes (is5 e)) = subst Mated (sym e) (inner c3 c5 (l3 L A) (l5 L A) (C .n5) (s3 L A w) (C .over3) (cc) (cc (e0 L A))) t
+        go (yes (is3 e)) = subst Mated (sym e) (inner c2 c3 (l2 L A) (l3 L A) (C .n3) (s2 L A w) (C .over2) (cc) (cc)) t
         go (no n) = at′ (out d h n)
           where
             at′ : Out d → Mate live opp′ vtx′ d (opp′ d)
@@ -188,7 +150,7 @@ module _ {live : ℕ → Type 0} {opp vtx : ℕ → ℕ} {c1 c2 c0 c4 c5 c3 : �
 
     φ4 : φ c4 ≡ c2
     unfolding φ
-    φ4 = simp (at-other, at-same, Ne·symm x1-4, Ne·symm (x2-4 L A), Ne·symm (x0-4 L A))
+    φ4 = simp (at-other, at-same, Ne·symm (x1-4 L A w), Ne·symm (x2-4 L A), Ne·symm (x0-4 L A))
 
     φ5 : φ c5 ≡ c4
     unfolding φ
@@ -235,19 +197,19 @@ module _ {live : ℕ → Type 0} {opp vtx : ℕ → ℕ} {c1 c2 c0 c4 c5 c3 : �
         go : Dec (S d) → Conn (Left live opp′) (φ d) (φ e)
         go (yes (is1 h)) =
             let x : next d ≡ c2 = cc in
-            leave d c2 c3 c5 e (rw x at t) (l2 L A) s2 (rw x at l) (C .n3) (A .g .n1) (l5 L A) (rw (h, φ1) h05)
+            leave d c2 c3 c5 e (rw x at t) (l2 L A) (s2 L A w) (rw x at l) (C .n3) (A .g .n1) (l5 L A) (rw (h, φ1) h05)
         go (yes (is2 h)) =
             let x : next d ≡ c0 = cc in
-            leave d c0 c2 c1 e (rw x at t) (l0 L A) s0 (rw x at l) (C .n2) (A .f .n0) (A .alive) (rw (h, φ2) stay)
+            leave d c0 c2 c1 e (rw x at t) (l0 L A) (s0 L A w) (rw x at l) (C .n2) (A .f .n0) (A .alive) (rw (h, φ2) stay)
         go (yes (is0 h)) =
             let ee : e ≡ c5 = cc l in
             rw (h, φ0, ee, φ5) stay
         go (yes (is4 h)) =
             let x : next d ≡ c5 = cc in
-            leave d c5 c0 c2 e (rw x at t) (l5 L A) s5 (rw x at l) (C .n0) (A .f .n1) (l2 L A) (rw (h, φ4) stay)
+            leave d c5 c0 c2 e (rw x at t) (l5 L A) (s5 L A w) (rw x at l) (C .n0) (A .f .n1) (l2 L A) (rw (h, φ4) stay)
         go (yes (is5 h)) =
             let x : next d ≡ c3 = cc in
-            leave d c3 c5 c4 e (rw x at t) (l3 L A) s3 (rw x at l) (C .n5) (A .g .n0) (l4 L A) (rw (h, φ5) stay)
+            leave d c3 c5 c4 e (rw x at t) (l3 L A) (s3 L A w) (rw x at l) (C .n5) (A .g .n0) (l4 L A) (rw (h, φ5) stay)
         go (yes (is3 h)) =
             let ee : e ≡ c2 = cc (l, b4 L A) in
             rw (h, φ3, ee, φ2) stay

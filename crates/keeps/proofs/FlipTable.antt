@@ -1,17 +1,16 @@
 -- The flip on the lists. Assumes nothing.
 use mathlib.Core.Path.{_≡_, refl, sym, _∙_, subst}
 use mathlib.Core.Logic.{_≢_, Ne·symm}
-use mathlib.Core.List.{List, []}
+use mathlib.Core.List.{List}
 use Prim.Native.Nat.{ℕ, _-_, _<_}
 use native.Mathlib.Omega.{arith}
 use lib.ListN.{length, getD, set}
 use Rattle.corner.specs.Corner.{next}
 use Rattle.corner.specs.Corner.{absent}
 use Rattle.fan.proofs.Fan.{Linked, opp-of}
-use Rattle.keeps.proofs.SplitFace.{face3}
 use Rattle.fan.proofs.Redirect.{at, at-same, at-other, at-ind, Seen, set-seen}
-use Rattle.keeps.proofs.Site.{Six, is1, is2, is0, is4, is5, is3, Site, site, l2, l0, l4, l5, l3, x1-2, x2-0, x0-1, x4-5, x5-3, x3-4, x1-5, x1-3, x2-4, x2-5, x2-3, x0-4, x0-5, x0-3}
-use Rattle.keeps.proofs.Flip.{Flip, flip-linked, flip-fan, s0, s2, s3, s5, x1-4}
+use Rattle.keeps.proofs.Site.{Six, is1, is2, is0, is4, is5, is3, Site, site, l2, l0, l4, l5, l3, x1-2, x2-0, x0-1, x4-5, x5-3, x3-4, x1-5, x1-3, x2-4, x2-5, x2-3, x0-4, x0-5, x0-3, x1-4, s0, s2, s3, s5}
+use Rattle.keeps.proofs.Flip.{Flip, flip-linked, flip-fan}
 use Rattle.table.specs.Table.{Table, table, Live, LiveVertex, opposite, vertex, corner, Shaped}
 use Rattle.table.specs.Rules.{WellFormed}
 use Rattle.edit.specs.Plans.{around}

@@ -12,7 +12,7 @@ use Rattle.fan.proofs.Tables.{table-linked}
 use Rattle.edge_collapse.specs.EdgeCollapse.{affectsBoundary, unsafe}
 use Rattle.edge_collapse.specs.Paper.{ThirdFace}
 use Rattle.edge_collapse.proofs.Paper.{unaffected, inner, safe}
-use Rattle.keeps.proofs.Collapse.{Six, is1, is2, is0, is4, is5, is3}
+use Rattle.keeps.proofs.Site.{Six, is1, is2, is0, is4, is5, is3}
 use Rattle.keeps.proofs.CollapseTable.{Safe}
 
 module _ (t : Table) (Z : Shaped t) (W : WellFormed t) (c : ℕ) (l : Live t c) (e : affectsBoundary t c ≡ false) (s : unsafe t c ≡ false)

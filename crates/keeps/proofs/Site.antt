@@ -5,7 +5,7 @@ use Prim.Native.Nat.{ℕ}
 use native.Mathlib.Decide.{ℕ-discrete}
 use Rattle.corner.specs.Corner.{absent, next, previous}
 use Rattle.corner.proofs.Turns.{next-next, next-previous}
-use Rattle.fan.proofs.Fan.{Linked, opp-of}
+use Rattle.fan.proofs.Fan.{Linked, opp-of, opp-not-self, opp-not-next, opp-not-previous}
 use Rattle.keeps.proofs.SplitFace.{Face3, face3}
 
 -- one of the six corners
@@ -91,7 +91,7 @@ module _ {live : ℕ → Type 0} {opp vtx : ℕ → ℕ} {c1 c2 c0 c4 c5 c3 : �
   pub d34 : vtx c3 ≢ vtx c4
   d34 z = L .differ c3 l3 (cc)
 
-  -- the six corners differ; only c1 and c4 need their vertices to, which is answer 12
+  -- the six corners differ; c1 and c4 do where the wings do, below
   pub x1-2 : c1 ≢ c2
   x1-2 z = d12 (cc)
 
@@ -148,3 +148,41 @@ module _ {live : ℕ → Type 0} {opp vtx : ℕ → ℕ} {c1 c2 c0 c4 c5 c3 : �
 
   pub off-next : (d : ℕ) → ¬ Six c1 c2 c0 c4 c5 c3 d → ¬ Six c1 c2 c0 c4 c5 c3 (next d)
   off-next d n s = off-previous (previous d) (off-previous d n) (subst (Six c1 c2 c0 c4 c5 c3) (cc (next-next (previous d), next-previous d)) s)
+
+  -- the wings differ: answer 12
+  module _ (w : vtx c1 ≢ vtx c4) where
+    pub x1-4 : c1 ≢ c4
+    x1-4 z = w (cc)
+
+    -- the outer opposites lie outside the two faces
+    pub s0 : opp c0 ≢ absent → ¬ Six c1 c2 c0 c4 c5 c3 (opp c0)
+    s0 t (is1 h) = opp-not-next L c0 l0 t (cc)
+    s0 t (is2 h) = opp-not-previous L c0 l0 t (cc)
+    s0 t (is0 h) = opp-not-self L c0 l0 t h
+    s0 t (is4 h) = x0-1 (cc (L .pair c0 l0 t, b4))
+    s0 t (is5 h) = w (cc (L .head c0 l0 t))
+    s0 t (is3 h) = d34 (cc (L .tail c0 l0 t, e2))
+
+    pub s2 : opp c2 ≢ absent → ¬ Six c1 c2 c0 c4 c5 c3 (opp c2)
+    s2 t (is1 h) = opp-not-previous L c2 l2 t (cc)
+    s2 t (is2 h) = opp-not-self L c2 l2 t h
+    s2 t (is0 h) = opp-not-next L c2 l2 t (cc)
+    s2 t (is4 h) = x1-2 (cc (L .pair c2 l2 t, b4))
+    s2 t (is5 h) = d12 (cc (L .tail c2 l2 t, e2))
+    s2 t (is3 h) = w (cc (L .tail c2 l2 t))
+
+    pub s5 : opp c5 ≢ absent → ¬ Six c1 c2 c0 c4 c5 c3 (opp c5)
+    s5 t (is1 h) = x4-5 (cc (L .pair c5 l5 t))
+    s5 t (is2 h) = s2 (λ z. L .present c5 l5 (cc (L .pair c5 l5 t))) (is5 (cc (L .pair c5 l5 t)))
+    s5 t (is0 h) = s0 (λ z. L .present c5 l5 (cc (L .pair c5 l5 t))) (is5 (cc (L .pair c5 l5 t)))
+    s5 t (is4 h) = opp-not-previous L c5 l5 t (cc)
+    s5 t (is5 h) = opp-not-self L c5 l5 t h
+    s5 t (is3 h) = opp-not-next L c5 l5 t (cc)
+
+    pub s3 : opp c3 ≢ absent → ¬ Six c1 c2 c0 c4 c5 c3 (opp c3)
+    s3 t (is1 h) = x3-4 (cc (L .pair c3 l3 t))
+    s3 t (is2 h) = s2 (λ z. L .present c3 l3 (cc (L .pair c3 l3 t))) (is3 (cc (L .pair c3 l3 t)))
+    s3 t (is0 h) = s0 (λ z. L .present c3 l3 (cc (L .pair c3 l3 t))) (is3 (cc (L .pair c3 l3 t)))
+    s3 t (is4 h) = opp-not-next L c3 l3 t (cc)
+    s3 t (is5 h) = opp-not-previous L c3 l3 t (cc)
+    s3 t (is3 h) = opp-not-self L c3 l3 t h

@@ -10,7 +10,7 @@ use Rattle.corner.specs.Corner.{absent}
 use Rattle.table.specs.Rules.{Mate}
 use Rattle.fan.proofs.Fan.{Left, Conn, stay, fore, conn-trans, conn-sym, conn-eq, Linked, OneFan, mate-sym, mate-at, linked, face-previous, opp-not-self, opp-not-next, opp-of}
 use Rattle.keeps.proofs.SplitFace.{Face3}
-use Rattle.keeps.proofs.Site.{Site, l2, l0, l4, l5, l3, b4, e0, e2, d12, d20, d34, x0-1, x1-5, x4-5, x2-3, x0-4, x0-5}
+use Rattle.keeps.proofs.Site.{Site, l2, l0, l4, l5, l3, b4, e0, e2, d12, d20, d34, x0-1, x1-5, x4-5, x2-3, x0-4}
 use Rattle.keeps.proofs.Seats.{Seat, moved-fan}
 use Rattle.fan.proofs.Redirect.{at, at-same, at-other}
 

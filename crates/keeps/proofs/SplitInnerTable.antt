@@ -3,7 +3,7 @@ use mathlib.Core.Bool.{true}
 use lib.Ieee.{Float}
 use mathlib.Core.Path.{_≡_, refl, ap, sym, _∙_, subst}
 use mathlib.Core.Logic.{_≢_, _⊎_, inl, inr}
-use mathlib.Core.List.{List, [], List·Memᴰ}
+use mathlib.Core.List.{List, List·Memᴰ}
 use Prim.Native.Nat.{ℕ, _+_, _-_, _≤_, _<_}
 use native.Mathlib.Omega.{arith}
 use native.Mathlib.Decide.{ℕ-discrete}
@@ -30,7 +30,7 @@ use Rattle.fan.proofs.Tables.{table-linked, table-fan, fan-table, inside}
 use Rattle.keeps.proofs.Writes.{paired-seen, push6, push6-seen, push6-old, six-push6}
 use Rattle.keeps.proofs.NewFaces.{grow, fresh, shrink, corner-marks, face-marks, next6, next7, next9, next10}
 use Rattle.keeps.proofs.NewVertex.{LiveV1, old-vertex, new-one, was-vertex, vertex-marks, split-finite}
-use Rattle.keeps.proofs.Site.{Site, l2, l0, l4, l5, l3, e2, x0-5}
+use Rattle.keeps.proofs.Site.{Site, site, l2, l0, l4, l5, l3, e2, x0-5}
 use Rattle.keeps.proofs.SplitInner.{Split, split-linked, split-fan, in-six}
 
 module _ (t : Table) (Z : Shaped t) (W : WellFormed t) (room : t .corners + 6 ≤ length (t .cornerMark)) (vroom : t .vertices + 1 ≤ length (t .vertexMark))
@@ -395,14 +395,7 @@ pub split-wf : (t : Table) → Shaped t → WellFormed t → t .corners + 6 ≤ 
     → (c : ℕ) → Live t c → opposite t c ≢ absent → (at : Point) → finitePoint at ≡ true → WellFormed (splitInnerEdge t c at)
 unfolding splitInnerEdge around innerVertices innerOpposites splitCorners cs cv0 cv′ co0 o1 b5 co′ vc′
 split-wf t Z W r s c h m at f =
-    let A : Site (Live t) (opposite t) c (next c) (next (next c)) (opposite t c) (next (opposite t c)) (next (next (opposite t c))) =
-    record {
-      f = face3 c (next c) (next (next c)) refl refl;
-      g = face3 (opposite t c) (next (opposite t c)) (next (next (opposite t c))) refl refl;
-      alive = h;
-      o1 = refl;
-      t1 = m;
-    } in
+    let A = site (opposite t) c h m in
     let L : Linked (Live t) (opposite t) (vertex t) = table-linked t Z W in
     simp six-push6
     (split-table t Z W r s c (next c) (next (next c)) (opposite t c) (next (opposite t c)) (next (next (opposite t c))) A
