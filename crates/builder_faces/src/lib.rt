@@ -7,7 +7,7 @@ ghost use mathlib.Core.Bool.{cond};
 ghost use Prim.Native.Nat.{_+_, _<_, _≤_, _%_};
 ghost use lib.ListN.{length, set};
 ghost use lib.Seq.{sets};
-ghost use Rattle.table.specs.Slots.{paired, three};
+ghost use Rattle.table.specs.Slots.{paired};
 ghost use Rattle.build.specs.Build.{allFinite, face as faceOf, faces as facesOf, known as knownOf, repeated as repeatedOf};
 ghost use Rattle.builder_faces.specs.Search.{noted, lookOf, faceLook, touched, amongOf, sought, takenBy};
 ghost use Rattle.builder_faces.specs.Steps.{soFar, stepped};
@@ -200,15 +200,6 @@ fn taken(bc: u32, ca: u32, ab: u32) -> bool
     ab != 4294967295
 }
 
-fn set_vertices(cv: &mut [u32], n: u32, a: u32, b: u32, c: u32)
-    ensures { λ r. ⌜ now (cv .exit) ≡ three (now (cv .entry)) n a b c ⌝ }
-{
-    let i = n as usize;
-    table::put(cv, i, a);
-    table::put(cv, i + 1, b);
-    table::put(cv, i + 2, c);
-}
-
 // A corner and the one whose edge runs the other way, if there is one: each is the other's opposite.
 fn pair(co: &mut [u32], c: u32, o: u32)
     ensures { λ r. ⌜ now (co .exit) ≡ paired (now (co .entry)) c o ⌝ }
@@ -291,7 +282,7 @@ fn add_face(
             skipped: skipped,
         };
     }
-    set_vertices(cv, n, a, b, c);
+    table::put_three(cv, n, a, b, c);
     set_opposites(co, n, f.cb, f.ac, f.ba);
     set_corners(vc, n, a, b, c);
     Added {

@@ -40,8 +40,8 @@ same-length-2 c = search needs
 returns-3 : tie.Need-returns-3
 returns-3 c = let a = c .before .before .before .before .before .before .before .before .before .before .before .before .args in let w = face-passed (a .count) (a .a) (a .b) (a .c) (c .before .before .before .before .before .before .refusal .result) (c .before .before .before .before .before .before .before .before .known .result) (c .before .before .before .before .before .before .before .repeated .result) (c .before .before .before .before .before .before .before .before .known .ensures) (c .before .before .before .before .before .before .before .repeated .ensures) (c .before .before .before .before .before .before .refusal .ensures) (c .before .before .before .before .before .if1 .left) in face-full _ _ _ _ _ _ _ _ _ _ _ (c .before .before .before .find-edges .ensures) _ (c .before .before .taken .ensures) (w .0) (w .1) (c .before .if2 .left) (c .if3 .taken)
 
-set-vertices-requires : tie.Need-set-vertices-requires
-set-vertices-requires c κs = search needs
+put-three-requires : tie.Need-put-three-requires
+put-three-requires c κs = search needs
 
 set-opposites-requires : tie.Need-set-opposites-requires
 set-opposites-requires c κs = search needs
@@ -62,7 +62,7 @@ same-length-5 : tie.Need-same-length-5
 same-length-5 c = search needs
 
 returns-4 : tie.Need-returns-4
-returns-4 c = let a = c .before .before .before .before .before .before .before .before .before .before .before .before .before .before .before .before .before .before .before .before .before .before .before .before .args in let w = face-passed (a .count) (a .a) (a .b) (a .c) (c .before .before .before .before .before .before .before .before .before .before .before .before .before .before .before .before .before .before .refusal .result) (c .before .before .before .before .before .before .before .before .before .before .before .before .before .before .before .before .before .before .before .before .known .result) (c .before .before .before .before .before .before .before .before .before .before .before .before .before .before .before .before .before .before .before .repeated .result) (c .before .before .before .before .before .before .before .before .before .before .before .before .before .before .before .before .before .before .before .before .known .ensures) (c .before .before .before .before .before .before .before .before .before .before .before .before .before .before .before .before .before .before .before .repeated .ensures) (c .before .before .before .before .before .before .before .before .before .before .before .before .before .before .before .before .before .before .refusal .ensures) (c .before .before .before .before .before .before .before .before .before .before .before .before .before .before .before .before .before .if1 .left) in face-grows _ _ _ _ _ _ _ _ _ _ _ (c .before .before .before .before .before .before .before .before .before .before .before .before .before .before .before .find-edges .ensures) _ (c .before .before .before .before .before .before .before .before .before .before .before .before .before .before .taken .ensures) (w .0) (w .1) (c .before .before .before .before .before .before .before .before .before .before .before .before .before .if2 .left) (c .before .before .before .before .before .before .before .before .before .before .before .before .if3 .left) _ _ _ (c .before .before .before .before .before .before .before .before .before .before .set-vertices .ensures) (c .before .before .before .before .before .before .set-opposites .ensures) (c .before .before .set-corners .ensures)
+returns-4 c = let a = c .before .before .before .before .before .before .before .before .before .before .before .before .before .before .before .before .before .before .before .before .before .before .before .before .args in let w = face-passed (a .count) (a .a) (a .b) (a .c) (c .before .before .before .before .before .before .before .before .before .before .before .before .before .before .before .before .before .before .refusal .result) (c .before .before .before .before .before .before .before .before .before .before .before .before .before .before .before .before .before .before .before .before .known .result) (c .before .before .before .before .before .before .before .before .before .before .before .before .before .before .before .before .before .before .before .repeated .result) (c .before .before .before .before .before .before .before .before .before .before .before .before .before .before .before .before .before .before .before .before .known .ensures) (c .before .before .before .before .before .before .before .before .before .before .before .before .before .before .before .before .before .before .before .repeated .ensures) (c .before .before .before .before .before .before .before .before .before .before .before .before .before .before .before .before .before .before .refusal .ensures) (c .before .before .before .before .before .before .before .before .before .before .before .before .before .before .before .before .before .if1 .left) in face-grows _ _ _ _ _ _ _ _ _ _ _ (c .before .before .before .before .before .before .before .before .before .before .before .before .before .before .before .find-edges .ensures) _ (c .before .before .before .before .before .before .before .before .before .before .before .before .before .before .taken .ensures) (w .0) (w .1) (c .before .before .before .before .before .before .before .before .before .before .before .before .before .if2 .left) (c .before .before .before .before .before .before .before .before .before .before .before .before .if3 .left) _ _ _ (c .before .before .before .before .before .before .before .before .before .before .put-three .ensures) (c .before .before .before .before .before .before .set-opposites .ensures) (c .before .before .set-corners .ensures)
 
 pub add-face-spec : {M : Type 1} → statement M
 add-face-spec =
@@ -80,7 +80,7 @@ add-face-spec =
     add-if3
     same-length-2
     returns-3
-    set-vertices-requires
+    put-three-requires
     set-opposites-requires
     set-corners-requires
     add-t20
