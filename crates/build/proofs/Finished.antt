@@ -17,7 +17,7 @@ use Rattle.corner.proofs.Turns.{next-below}
 use Rattle.table.specs.Slots.{nought, pointAt, withPoint}
 use Rattle.table.specs.Table.{Table, Live, LiveVertex, Shaped, maxVertices}
 use Rattle.table.specs.Rules.{WellFormed}
-use Rattle.table.proofs.Shape.{and-true}
+use Rattle.flag.proofs.Words.{and-true}
 use Rattle.fan.proofs.Fan.{Left, Conn, Linked, conn-fan}
 use Rattle.fan.proofs.Spread.{Settled}
 use Rattle.ring.specs.Ring.{ring}

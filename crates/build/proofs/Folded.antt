@@ -1,7 +1,7 @@
 -- Every face of a build, and so all of them, leave a table that is ready. Assumes nothing.
 use mathlib.Core.Path.{_≡_, refl}
 use mathlib.Core.Logic.{_≢_, inl}
-use mathlib.Core.Bool.{Bool, true, false, cond, _&&_, _||_, true≢false}
+use mathlib.Core.Bool.{Bool, true, false, cond, _&&_, _||_}
 use mathlib.Core.List.{List, [], _∷_}
 use Prim.Native.Nat.{ℕ, zero, suc, _+_, _≤_}
 use native.Mathlib.Omega.{arith}
@@ -10,7 +10,7 @@ use lib.Dec.{eqb, ltb}
 use lib.ListN.{getD, replicate, length-replicate}
 use Rattle.corner.specs.Corner.{absent}
 use Rattle.table.specs.Table.{maxCorners}
-use Rattle.table.proofs.Shape.{and-true}
+use Rattle.flag.proofs.Words.{and-true, or-false}
 use Rattle.build.specs.Build.{SoFar, start, found, held, skip, grow, Course, refuse, go, known, repeated, taken, face, onCourse, faces}
 use Rattle.build.specs.Ready.{Ready}
 use Rattle.build.proofs.Ready.{grow-ready, skip-ready}
@@ -19,10 +19,6 @@ use Rattle.build.proofs.Ready.{grow-ready, skip-ready}
 abbrev pub Leaves : (SoFar → Type 0) → Course → Type 0
 Leaves P (refuse n) = n ≢ 0
 Leaves P (go s) = P s
-
-pub or-false : (a b : Bool) → a || b ≡ false → (a ≡ false) × (b ≡ false)
-or-false true b e = absurd (true≢false e)
-or-false false b e = (refl, e)
 
 module _ (nv room vroom : ℕ) where
   abbrev pub Fine : Course → Type 0

@@ -9,7 +9,8 @@ use lib.Dec.{eqb, ltb}
 use lib.Ieee.{Float}
 use lib.ListN.{length}
 use Rattle.table.specs.Table.{Table, cornerRoom, vertexRoom, shaped, Shaped, maxVertices}
-use Rattle.table.proofs.Shape.{and-true, shaped-true}
+use Rattle.flag.proofs.Words.{and-true}
+use Rattle.table.proofs.Shape.{shaped-true}
 use Rattle.build.specs.Build.{Course, refuse, go, faces, refused, start, allFinite, done, spread, finish, build, Finished}
 use Rattle.build.proofs.Folded.{Fine, faces-ready, start-ready}
 use Rattle.build.proofs.Finished.{done-formed, done-shaped}

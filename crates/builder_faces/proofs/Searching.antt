@@ -11,7 +11,7 @@ use Rattle.corner.specs.Corner.{absent, next, previous}
 use Rattle.corner.proofs.Turns.{next-first, next-second, next-last, previous-first, previous-second, previous-last}
 use Rattle.table.specs.Slots.{vertexAt}
 use Rattle.build.specs.Build.{edgeAt, findEdge}
-use Rattle.build.proofs.Folded.{or-false}
+use Rattle.flag.proofs.Words.{or-false}
 use Rattle.builder_faces.specs.declared.Found.{Found}
 use Rattle.builder_faces.specs.Search.{sought, noted, lookOf, faceLook, amongOf, touched, takenBy}
 

@@ -9,7 +9,7 @@ use native.Mathlib.Decide.{ℕ-discrete}
 use borrow.Author.Tests.{eq-eqb, ne-eqb, eqb-true, eqb-false, not-true}
 use lib.Dec.{eqb}
 use Rattle.corner.specs.Corner.{absent}
-use Rattle.table.proofs.Shape.{and-true}
+use Rattle.flag.proofs.Words.{and-true}
 use Rattle.table.specs.Table.{Table, opposite, Live, LiveVertex, live}
 use Rattle.table.specs.Euler.{count, vertexCount, faceCount, bareCount, pairedCount, edgeCount, SameEuler}
 use Rattle.table.proofs.Lives.{live-true, true-live}

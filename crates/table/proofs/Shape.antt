@@ -1,9 +1,10 @@
 -- The test behind answer 1, an arm at a time, and what it shows. Assumes nothing.
-use mathlib.Core.Path.{_≡_, refl, sym, _∙_}
-use mathlib.Core.Bool.{Bool, true, false, _&&_, false≢true}
+use mathlib.Core.Path.{_≡_, sym, _∙_}
+use mathlib.Core.Bool.{true, false}
 use Prim.Native.Nat.{ℕ, _*_, _≤_, _<_}
 use borrow.Author.Tests.{le-leb, lt-leb, eq-eqb, ne-eqb, eqb-true, leb-true}
 use lib.Dec.{eqb}
+use Rattle.flag.proofs.Words.{and-true}
 use Rattle.table.specs.Table.{Table, shapedBy, shaped, Shaped, maxCorners, maxVertices}
 
 module _ (cv co cm vc vm vp : ℕ) where
@@ -34,10 +35,6 @@ module _ (cv co cm vc vm vp : ℕ) where
           pub point-part : vc ≡ vm → eqb vp (3 * vm) ≡ shapedBy cv co cm vc vm vp
           unfolding shapedBy
           point-part h = rw (le-leb cm maxCorners a, le-leb vm maxVertices b, eq-eqb cv cm c, eq-eqb co cm d, eq-eqb vc vm h)
-
-pub and-true : (a b : Bool) → a && b ≡ true → (a ≡ true) × (b ≡ true)
-and-true true b e = (refl, e)
-and-true false b e = absurd (false≢true e)
 
 -- both directions: the test passes exactly for a table that is Shaped
 pub shaped-true : (t : Table) → shaped t ≡ true → Shaped t
