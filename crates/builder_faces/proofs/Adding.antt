@@ -5,34 +5,15 @@ use mathlib.Core.List.{List, [], _∷_}
 use Prim.Native.Nat.{ℕ, zero, suc, _+_, _-_, _≤_, _<_, _%_}
 use native.Mathlib.Omega.{arith}
 use native.Mathlib.Numerals.{add-one}
-use borrow.Author.Tests.{lt-ltb, le-ltb, ltb-false, eq-eqb, ne-eqb}
-use lib.Dec.{eqb, ltb}
+use borrow.Author.Tests.{lt-ltb, le-ltb, ltb-false}
+use lib.Dec.{ltb}
 use lib.ListN.{length, getD, set, drop, length-drop}
 use lib.Seq.{drop-cons}
 use Rattle.table.specs.Slots.{paired, three}
 use Rattle.build.specs.Build.{SoFar, skip, grow, Course, refuse, go, known, repeated, taken, face, onCourse, faces}
-use Rattle.builder_faces.specs.declared.Found.{Found}
-use Rattle.builder_faces.specs.Search.{sought, takenBy}
+use Rattle.builder_edges.specs.declared.Found.{Found}
+use Rattle.builder_edges.specs.Search.{sought, takenBy}
 use Rattle.builder_faces.specs.Steps.{soFar, stepped}
-
-module _ (n a b c : ℕ) where
-  pub known-c : a < n → b < n → ltb c n ≡ known n a b c
-  known-c p q = rw (lt-ltb a n p, lt-ltb b n q)
-
-  pub known-b : a < n → n ≤ b → false ≡ known n a b c
-  known-b p q = rw (lt-ltb a n p, le-ltb b n q)
-
-  pub known-a : n ≤ a → false ≡ known n a b c
-  known-a p = rw (le-ltb a n p)
-
-  pub repeated-a : a ≡ b → true ≡ repeated a b c
-  repeated-a p = rw (eq-eqb a b p)
-
-  pub repeated-b : (a ≡ b → ⊥) → b ≡ c → true ≡ repeated a b c
-  repeated-b p q = rw (ne-eqb a b p, eq-eqb b c q)
-
-  pub repeated-c : (a ≡ b → ⊥) → (b ≡ c → ⊥) → eqb c a ≡ repeated a b c
-  repeated-c p q = rw (ne-eqb a b p, ne-eqb b c q)
 
 -- ---- one face
 

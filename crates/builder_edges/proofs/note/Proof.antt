@@ -1,6 +1,6 @@
-use Rattle.builder_faces.proofs.Searching.{noted-new, noted-first, noted-head, noted-tail}
-use Rattle.builder_faces.proofs.note.Statement.{statement}
-use Rattle.builder_faces.proofs.note.Tie as tie
+use Rattle.builder_edges.proofs.Searching.{noted-new, noted-first, noted-head, noted-tail}
+use Rattle.builder_edges.proofs.note.Statement.{statement}
+use Rattle.builder_edges.proofs.note.Tie as tie
 
 returns : tie.Need-returns
 returns c = noted-new _ _ _ _ _ _ (c .before .before .if1 .taken) (c .before .if2 .taken) (c .if3 .taken)

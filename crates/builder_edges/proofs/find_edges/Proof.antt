@@ -1,8 +1,8 @@
 use Prim.Native.Nat.{_-_}
 use native.Mathlib.Omega.{arith}
-use Rattle.builder_faces.proofs.Searching.{Seeking, seeking-start, seeking-on, seeking-end}
-use Rattle.builder_faces.proofs.find_edges.Statement.{statement}
-use Rattle.builder_faces.proofs.find_edges.Tie as tie
+use Rattle.builder_edges.proofs.Searching.{Seeking, seeking-start, seeking-on, seeking-end}
+use Rattle.builder_edges.proofs.find_edges.Statement.{statement}
+use Rattle.builder_edges.proofs.find_edges.Tie as tie
 
 abbrev Inv-loop : tie.InvT-loop
 Inv-loop cv n a b c f₀ i₀ f i = Seeking cv n a b c i f

@@ -6,7 +6,7 @@ use lib.Dec.{eqb}
 use Rattle.corner.specs.Corner.{absent}
 use Rattle.table.specs.Slots.{vertexAt}
 use Rattle.build.specs.Build.{findEdge}
-use Rattle.builder_faces.specs.declared.Found.{Found}
+use Rattle.builder_edges.specs.declared.Found.{Found}
 
 -- the first corner whose edge runs from b to c, from c to a, and so on, of the first n
 unfoldable pub sought : List ℕ → (n a b c : ℕ) → Found

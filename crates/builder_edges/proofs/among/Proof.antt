@@ -1,6 +1,6 @@
-use Rattle.builder_faces.proofs.Searching.{among-a, among-b, among-c}
-use Rattle.builder_faces.proofs.among.Statement.{statement}
-use Rattle.builder_faces.proofs.among.Tie as tie
+use Rattle.builder_edges.proofs.Searching.{among-a, among-b, among-c}
+use Rattle.builder_edges.proofs.among.Statement.{statement}
+use Rattle.builder_edges.proofs.among.Tie as tie
 
 returns : tie.Need-returns
 returns c = among-a _ _ _ _ (c .if1 .taken)

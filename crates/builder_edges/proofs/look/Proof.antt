@@ -1,7 +1,7 @@
 use borrow.Author.Needs.{needs}
-use Rattle.builder_faces.proofs.Searching.{looked}
-use Rattle.builder_faces.proofs.look.Statement.{statement}
-use Rattle.builder_faces.proofs.look.Tie as tie
+use Rattle.builder_edges.proofs.Searching.{looked}
+use Rattle.builder_edges.proofs.look.Statement.{statement}
+use Rattle.builder_edges.proofs.look.Tie as tie
 
 note-requires : tie.Need-note-requires
 note-requires c κs = search needs

@@ -1,7 +1,7 @@
 use borrow.Author.Needs.{needs}
-use Rattle.builder_faces.proofs.Searching.{face-looked, face-untouched}
-use Rattle.builder_faces.proofs.look_face.Statement.{statement}
-use Rattle.builder_faces.proofs.look_face.Tie as tie
+use Rattle.builder_edges.proofs.Searching.{face-looked, face-untouched}
+use Rattle.builder_edges.proofs.look_face.Statement.{statement}
+use Rattle.builder_edges.proofs.look_face.Tie as tie
 
 at-requires : tie.Need-at-requires
 at-requires c κs = search needs

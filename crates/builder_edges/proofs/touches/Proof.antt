@@ -1,7 +1,7 @@
 use borrow.Author.Needs.{needs}
-use Rattle.builder_faces.proofs.Searching.{touched-x, touched-y, touched-z}
-use Rattle.builder_faces.proofs.touches.Statement.{statement}
-use Rattle.builder_faces.proofs.touches.Tie as tie
+use Rattle.builder_edges.proofs.Searching.{touched-x, touched-y, touched-z}
+use Rattle.builder_edges.proofs.touches.Statement.{statement}
+use Rattle.builder_edges.proofs.touches.Tie as tie
 
 among-requires : tie.Need-among-requires
 among-requires c κs = search needs

@@ -1,6 +1,6 @@
-use Rattle.builder_faces.proofs.Searching.{taken-bc, taken-ca, taken-ab}
-use Rattle.builder_faces.proofs.taken.Statement.{statement}
-use Rattle.builder_faces.proofs.taken.Tie as tie
+use Rattle.builder_edges.proofs.Searching.{taken-bc, taken-ca, taken-ab}
+use Rattle.builder_edges.proofs.taken.Statement.{statement}
+use Rattle.builder_edges.proofs.taken.Tie as tie
 
 returns : tie.Need-returns
 returns c = taken-bc _ _ _ (c .if1 .taken)

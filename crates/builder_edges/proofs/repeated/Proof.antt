@@ -1,6 +1,6 @@
-use Rattle.builder_faces.proofs.Adding.{repeated-a, repeated-b, repeated-c}
-use Rattle.builder_faces.proofs.repeated.Statement.{statement}
-use Rattle.builder_faces.proofs.repeated.Tie as tie
+use Rattle.builder_edges.proofs.Searching.{repeated-a, repeated-b, repeated-c}
+use Rattle.builder_edges.proofs.repeated.Statement.{statement}
+use Rattle.builder_edges.proofs.repeated.Tie as tie
 
 returns : tie.Need-returns
 returns c = let a = c .before .args in repeated-a (a .a) (a .a) (a .b) (a .c) (c .if1 .taken)

@@ -1,6 +1,6 @@
-use Rattle.builder_faces.proofs.Adding.{known-a, known-b, known-c}
-use Rattle.builder_faces.proofs.known.Statement.{statement}
-use Rattle.builder_faces.proofs.known.Tie as tie
+use Rattle.builder_edges.proofs.Searching.{known-a, known-b, known-c}
+use Rattle.builder_edges.proofs.known.Statement.{statement}
+use Rattle.builder_edges.proofs.known.Tie as tie
 
 returns : tie.Need-returns
 returns c = let a = c .before .before .args in known-c (a .count) (a .a) (a .b) (a .c) (c .before .if1 .taken) (c .if2 .taken)

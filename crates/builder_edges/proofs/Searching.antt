@@ -1,19 +1,19 @@
--- One pass finds what six searches find. Assumes nothing.
+-- Laws of the pass over the kept faces, and of the indices of a face. Assumes nothing.
 use mathlib.Core.Path.{_≡_, refl, ap, sym, _∙_}
 use mathlib.Core.Bool.{Bool, true, false, cond, not, _&&_, _||_}
 use mathlib.Core.List.{List}
 use Prim.Native.Nat.{ℕ, suc, _+_, _-_, _≤_, _<_, _%_}
 use native.Mathlib.Omega.{arith}
 use native.Mathlib.Nat.{sub-zero}
-use borrow.Author.Tests.{eq-eqb, ne-eqb, eqb-true}
-use lib.Dec.{eqb}
+use borrow.Author.Tests.{lt-ltb, le-ltb, eq-eqb, ne-eqb, eqb-true}
+use lib.Dec.{eqb, ltb}
 use Rattle.corner.specs.Corner.{absent, next, previous}
 use Rattle.corner.proofs.Turns.{next-first, next-second, next-last, previous-first, previous-second, previous-last}
 use Rattle.table.specs.Slots.{vertexAt}
-use Rattle.build.specs.Build.{edgeAt, findEdge}
+use Rattle.build.specs.Build.{edgeAt, findEdge, known, repeated}
 use Rattle.flag.proofs.Words.{or-false}
-use Rattle.builder_faces.specs.declared.Found.{Found}
-use Rattle.builder_faces.specs.Search.{sought, noted, lookOf, faceLook, amongOf, touched, takenBy}
+use Rattle.builder_edges.specs.declared.Found.{Found}
+use Rattle.builder_edges.specs.Search.{sought, noted, lookOf, faceLook, amongOf, touched, takenBy}
 
 -- ---- the tests, an arm at a time
 
@@ -219,3 +219,24 @@ module _ (cv : List ℕ) (n a b c : ℕ) (whole : n % 3 ≡ 0) (small : n < 4294
           ← (last a c (f .ac) h (S .ac)),
           ← (last b a (f .ba) h (S .ba)),
         )
+
+-- ---- the indices of a face
+
+module _ (n a b c : ℕ) where
+  pub known-c : a < n → b < n → ltb c n ≡ known n a b c
+  known-c p q = rw (lt-ltb a n p, lt-ltb b n q)
+
+  pub known-b : a < n → n ≤ b → false ≡ known n a b c
+  known-b p q = rw (lt-ltb a n p, le-ltb b n q)
+
+  pub known-a : n ≤ a → false ≡ known n a b c
+  known-a p = rw (le-ltb a n p)
+
+  pub repeated-a : a ≡ b → true ≡ repeated a b c
+  repeated-a p = rw (eq-eqb a b p)
+
+  pub repeated-b : (a ≡ b → ⊥) → b ≡ c → true ≡ repeated a b c
+  repeated-b p q = rw (ne-eqb a b p, eq-eqb b c q)
+
+  pub repeated-c : (a ≡ b → ⊥) → (b ≡ c → ⊥) → eqb c a ≡ repeated a b c
+  repeated-c p q = rw (ne-eqb a b p, ne-eqb b c q)

@@ -1,0 +1,2 @@
+-- Laws of the pass over the kept faces.
+pub mod Searching
