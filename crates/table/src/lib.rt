@@ -1,10 +1,11 @@
 // mod.rs, and the helper functions of edit.rs and builder.rs: the slots of the six lent slices.
 //
-// Every read and write is total. Past the end a read gives what getD gives there (no opposite, no corner, a mark that says deleted,
-// else 0) and a write does nothing, so that no caller owes a bound; on a well-formed table no index is ever past the end.
+// Every read and write is total, but for those of a slot that is known to be there. Past the end a read gives what getD gives there (no
+// opposite, no corner, a mark that says deleted, else 0) and a write does nothing, so that no caller owes a bound; on a well-formed table
+// no index is ever past the end.
 ghost use mathlib.Core.Path.{_≡_};
-ghost use Prim.Native.Nat.{_+_, _*_};
-ghost use lib.ListN.{getD, set};
+ghost use Prim.Native.Nat.{_+_, _*_, _<_};
+ghost use lib.ListN.{getD, set, length};
 ghost use Rattle.corner.specs.Corner.{absent};
 ghost use Rattle.table.specs.Slots.{vertexAt, oppositeAt, cornerAt, nought, pointAt, withPoint, paired, three, blanked};
 ghost use Rattle.table.specs.Table.{shapedBy, live};
@@ -52,6 +53,49 @@ pub fn put_float(l: &mut [f32], i: usize, v: f32)
     if i < l.len() {
         l[i] = v;
     }
+}
+
+// ---- slots that are known to be there
+//
+// The caller says so, and nothing is tested: the two faces at an edge of a well-formed table are there, and the corners that a walk has
+// counted. The tests of total reads and writes, and the values that stand in past the end, were two fifths of a flip's instructions.
+
+pub fn at_there(l: &[u32], i: usize, none: u32) -> u32
+    requires { ⌜ i < length (now l) ⌝ }
+    ensures { λ r. ⌜ r ≡ getD (now (l .entry)) i none ⌝ }
+{
+    l[i]
+}
+
+pub fn vertex_there(cv: &[u32], c: Corner) -> Vertex
+    requires { ⌜ c .0 < length (now cv) ⌝ }
+    ensures { λ r. ⌜ r .0 ≡ vertexAt (now (cv .entry)) (c .0) ⌝ }
+{
+    Vertex(at_there(cv, c.0 as usize, 0))
+}
+
+pub fn opposite_there(co: &[u32], c: Corner) -> Corner
+    requires { ⌜ c .0 < length (now co) ⌝ }
+    ensures { λ r. ⌜ r .0 ≡ oppositeAt (now (co .entry)) (c .0) ⌝ }
+{
+    Corner(at_there(co, c.0 as usize, 4294967295))
+}
+
+pub fn put_there(l: &mut [u32], i: u32, v: u32)
+    requires { ⌜ i < length (now l) ⌝ }
+    ensures { λ r. ⌜ now (l .exit) ≡ set (now (l .entry)) i v ⌝ }
+{
+    let k = i as usize;
+    l[k] = v;
+}
+
+// Makes a, whose slot is there, and b, which may be absent, opposite to each other.
+pub fn pair_there(co: &mut [u32], a: Corner, b: Corner)
+    requires { ⌜ a .0 < length (now co) ⌝ }
+    ensures { λ r. ⌜ now (co .exit) ≡ paired (now (co .entry)) (a .0) (b .0) ⌝ }
+{
+    put_there(co, a.0, b.0);
+    put(co, b.0 as usize, a.0);
 }
 
 // ---- a corner's slot
