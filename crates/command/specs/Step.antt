@@ -2,10 +2,10 @@
 use mathlib.Core.Bool.{cond}
 use lib.Dec.{eqb}
 use Rattle.table.specs.Table.{Table}
-use Rattle.edit.specs.Flip.{flipEdge}
-use Rattle.edit.specs.SplitFace.{splitFace}
-use Rattle.edit.specs.SplitEdge.{splitEdge}
-use Rattle.edit.specs.Collapse.{collapseEdge}
+use Rattle.edit_inner.specs.Collapse.{collapseEdge}
+use Rattle.edit_inner.specs.Flip.{flipEdge}
+use Rattle.edit_splits.specs.SplitEdge.{splitEdge}
+use Rattle.edit_splits.specs.SplitFace.{splitFace}
 use Rattle.command.specs.declared.Edit.{Edit}
 use Rattle.command.specs.declared.Edit.the-variants.{Collapse, Flip, SplitEdge, SplitFace, Unknown}
 use Rattle.command.specs.Answers.{answer}

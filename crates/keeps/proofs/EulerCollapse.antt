@@ -18,8 +18,8 @@ use mathlib.Core.Bool.{true}
 use Rattle.vertex.specs.declared.Point.{Point}
 use Rattle.vertex.specs.Point.{finitePoint}
 use Rattle.table.specs.Euler.{SameEuler}
-use Rattle.edit.specs.Plans.{around}
-use Rattle.edit.specs.Collapse.{collapseVertices, collapseOpposites, collapseMarks, collapseCorners, collapseEdge}
+use Rattle.edit_plans.specs.Plans.{around}
+use Rattle.edit_inner.specs.Collapse.{collapseVertices, collapseOpposites, collapseMarks, collapseCorners, collapseEdge}
 use Rattle.fan.proofs.Tables.{table-linked}
 use Rattle.keeps.proofs.CollapseTable.{u, keep, kept, gone, the-merge, stays, stayed, Safe, about, winged-left, either-left, merge-site, co′, cv′, cm′, vc′, vm′}
 

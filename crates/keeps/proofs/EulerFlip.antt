@@ -13,8 +13,8 @@ use Rattle.keeps.proofs.Euler.{same-euler, live?, bare, paired, bare?, 
 use Rattle.table.specs.Table.{Table, Live, opposite, vertex, Shaped}
 use Rattle.table.specs.Rules.{WellFormed}
 use Rattle.table.specs.Euler.{SameEuler}
-use Rattle.edit.specs.Plans.{around}
-use Rattle.edit.specs.Flip.{flipVertices, flipOpposites, flipCorners, flipEdge}
+use Rattle.edit_plans.specs.Plans.{around}
+use Rattle.edit_inner.specs.Flip.{flipVertices, flipOpposites, flipCorners, flipEdge}
 use Rattle.fan.proofs.Tables.{table-linked}
 use Rattle.keeps.proofs.FlipTable.{flipped, the-flip, co′, cv′, vc′}
 

@@ -13,8 +13,8 @@ use Rattle.keeps.proofs.Site.{Six, is1, is2, is0, is4, is5, is3, Site, 
 use Rattle.keeps.proofs.Flip.{Flip, flip-linked, flip-fan}
 use Rattle.table.specs.Table.{Table, table, Live, LiveVertex, opposite, vertex, corner, Shaped}
 use Rattle.table.specs.Rules.{WellFormed}
-use Rattle.edit.specs.Plans.{around}
-use Rattle.edit.specs.Flip.{flipVertices, flipOpposites, flipCorners, flipEdge}
+use Rattle.edit_plans.specs.Plans.{around}
+use Rattle.edit_inner.specs.Flip.{flipVertices, flipOpposites, flipCorners, flipEdge}
 use Rattle.table.specs.Slots.{paired}
 use Rattle.fan.proofs.Tables.{table-linked, table-fan, fan-table, inside}
 use Rattle.keeps.proofs.Writes.{paired-seen}

@@ -16,10 +16,10 @@ use Rattle.table.specs.Table.{Table, cornerRoom, vertexRoom, vertex, opposite, 
 use Rattle.table.specs.Rules.{WellFormed}
 use Rattle.table.specs.Euler.{SameEuler}
 use Rattle.fan.proofs.Relabel.{length-relabel}
-use Rattle.edit.specs.Flip.{flipVertices, flipOpposites, flipCorners, flipEdge}
-use Rattle.edit.specs.SplitFace.{faceVertices, faceOpposites, faceCorners, splitFace}
-use Rattle.edit.specs.SplitEdge.{splitPoints, splitCorners, innerVertices, innerOpposites, splitInnerEdge, boundaryVertices, boundaryOpposites, splitBoundaryEdge, splitEdge}
-use Rattle.edit.specs.Collapse.{winged, collapseVertices, collapseOpposites, collapseMarks, collapseCorners, collapseEdge}
+use Rattle.edit_inner.specs.Collapse.{winged, collapseVertices, collapseOpposites, collapseMarks, collapseCorners, collapseEdge}
+use Rattle.edit_inner.specs.Flip.{flipVertices, flipOpposites, flipCorners, flipEdge}
+use Rattle.edit_splits.specs.SplitEdge.{splitPoints, splitCorners, innerVertices, innerOpposites, splitInnerEdge, boundaryVertices, boundaryOpposites, splitBoundaryEdge, splitEdge}
+use Rattle.edit_splits.specs.SplitFace.{faceVertices, faceOpposites, faceCorners, splitFace}
 use Rattle.edge_collapse.specs.EdgeCollapse.{affectsBoundary, unsafe}
 use Rattle.keeps.specs.Keeps.{Kept}
 use Rattle.keeps.proofs.FlipTable.{flip-wf}

@@ -12,7 +12,7 @@ use Rattle.fan.proofs.Fan.{Linked}
 use Rattle.fan.proofs.Tables.{table-linked}
 use Rattle.ring.specs.Ring.{ring}
 use Rattle.ring.proofs.Exact.{ring-sound}
-use Rattle.edit.specs.Plans.{around, triangle}
+use Rattle.edit_plans.specs.Plans.{around, triangle}
 use Rattle.keeps.specs.Keeps.{Outer, AroundUsed, TriangleUsed}
 
 module _ (t : Table) (Z : Shaped t) (W : WellFormed t) where

@@ -11,7 +11,7 @@ use lib.Seq.{getD-set-same, getD-set-other}
 use Rattle.vertex.specs.declared.Point.{Point}
 use Rattle.table.specs.Slots.{markAt, nought, pointAt, withPoint, paired, three}
 use Rattle.fan.proofs.Redirect.{at, at-other, at-ind, Seen, set-seen, set-at}
-use Rattle.edit.specs.SplitFace.{six}
+use Rattle.edit_plans.specs.Plans.{six}
 
 pub paired-seen : {o : List ℕ} {f : ℕ → ℕ} {x d : ℕ} (a b : ℕ) → Seen o f x d → Seen (paired o a b) (at b a (at a b f)) x d
 paired-seen a b s = set-seen b a (set-seen a b s)

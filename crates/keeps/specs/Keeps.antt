@@ -7,8 +7,8 @@ use Rattle.corner.specs.Corner.{absent}
 use Rattle.table.specs.Table.{Table, cornerRoom, vertexRoom, Shaped}
 use Rattle.table.specs.Rules.{WellFormed}
 use Rattle.table.specs.Euler.{SameEuler}
-use Rattle.edit.specs.declared.Around.{Around}
-use Rattle.edit.specs.declared.Triangle.{Triangle}
+use Rattle.edit_plans.specs.declared.Around.{Around}
+use Rattle.edit_plans.specs.declared.Triangle.{Triangle}
 
 -- demand 3: the table is well-formed and V−E+F is what it was; the lent parts keep their lengths
 pub record Kept (t u : Table) : Type 0 where

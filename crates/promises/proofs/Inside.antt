@@ -26,7 +26,7 @@ use Rattle.traversal.specs.Lists.{entry, entries}
 use Rattle.traversal.proofs.Sound.{never-15, corner-calm, corner-healthy, Healthy, ring, fan}
 use Rattle.edge_collapse.specs.EdgeCollapse.{meetsBorder, neighbours, affectsBoundary}
 use Rattle.edge_collapse.proofs.Paper.{inner}
-use Rattle.edit.specs.Plans.{around, triangle}
+use Rattle.edit_plans.specs.Plans.{around, triangle}
 use Rattle.keeps.specs.Keeps.{Kept}
 use Rattle.keeps.proofs.Used.{triangle-used, around-used, ring-used}
 use Rattle.checker.specs.Order.{verdictOf}

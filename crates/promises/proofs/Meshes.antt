@@ -10,8 +10,8 @@ use Rattle.table.specs.Slots.{nought}
 use Rattle.table.specs.Table.{extended, shapedBy, live}
 use Rattle.table.specs.Meshes.{meshA, meshB, meshT, one, two, three}
 use Rattle.ring.specs.Ring.{side, ring}
-use Rattle.edit.specs.Plans.{around}
-use Rattle.edit.specs.Collapse.{winged, either, collapseVertices, collapseOpposites, collapseMarks, collapseCorners, collapseEdge}
+use Rattle.edit_plans.specs.Plans.{around}
+use Rattle.edit_inner.specs.Collapse.{winged, either, collapseVertices, collapseOpposites, collapseMarks, collapseCorners, collapseEdge}
 use Rattle.edge_collapse.specs.EdgeCollapse.{meetsBorder, neighbours, timesIn, commonIn, affectsBoundary, unsafe}
 use Rattle.command.specs.declared.Edit.the-variants.{Collapse, Flip, SplitEdge, SplitFace}
 use Rattle.command.specs.Answers.{first, targeted, roomFor, collapseAnswer, flipAnswer, splitEdgeAnswer, splitFaceAnswer, answer}

@@ -16,13 +16,13 @@ use Rattle.table.specs.Rules.{WellFormed}
 use Rattle.fan.proofs.Fan.{Linked, face-previous}
 use Rattle.fan.proofs.Tables.{table-linked}
 use Rattle.ring.specs.Ring.{ring}
-use Rattle.edit.specs.declared.Around.{Around}
-use Rattle.edit.specs.declared.Triangle.{Triangle}
-use Rattle.edit.specs.Plans.{around, triangle, without}
-use Rattle.edit.specs.Flip.{flipVertices, flipOpposites, flipCorners, flipped, flipEdge}
-use Rattle.edit.specs.SplitFace.{six, faceVertices, faceOpposites, faceCorners, faceSplit, splitFace}
-use Rattle.edit.specs.SplitEdge.{splitPoints, splitCorners, innerVertices, innerOpposites, innerSplit, splitInnerEdge, boundaryVertices, boundaryOpposites, boundarySplit, splitBoundaryEdge, splitEdge}
-use Rattle.edit.specs.Collapse.{collapseVertices, collapseOpposites, collapseMarks, collapseCorners, collapsed, collapseEdge}
+use Rattle.edit_plans.specs.declared.Around.{Around}
+use Rattle.edit_plans.specs.declared.Triangle.{Triangle}
+use Rattle.edit_plans.specs.Plans.{around, triangle, six}
+use Rattle.edit_inner.specs.Collapse.{collapseVertices, collapseOpposites, collapseMarks, collapseCorners, collapsed, collapseEdge}
+use Rattle.edit_inner.specs.Flip.{flipVertices, flipOpposites, flipCorners, flipped, flipEdge}
+use Rattle.edit_splits.specs.SplitEdge.{without, splitPoints, splitCorners, innerVertices, innerOpposites, innerSplit, splitInnerEdge, boundaryVertices, boundaryOpposites, boundarySplit, splitBoundaryEdge, splitEdge}
+use Rattle.edit_splits.specs.SplitFace.{faceVertices, faceOpposites, faceCorners, faceSplit, splitFace}
 use Rattle.promises.specs.Rooms.{Agree, Roomier}
 use Rattle.promises.proofs.Agree.{agree-set, agree-grow, agree-paired, agree-relabel, agree-three, agree-six, agree-point, agree-place, agree-winged}
 use Rattle.promises.proofs.SameReads.{same-opposite, same-corner, same-point, ring-same, triangle-same, around-same}

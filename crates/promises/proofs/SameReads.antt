@@ -15,7 +15,7 @@ use Rattle.table.specs.Rules.{WellFormed}
 use Rattle.fan.proofs.Fan.{Linked, face-previous}
 use Rattle.fan.proofs.Tables.{table-linked}
 use Rattle.ring.specs.Ring.{Side, stop, more, side, ring}
-use Rattle.edit.specs.Plans.{around, triangle}
+use Rattle.edit_plans.specs.Plans.{around, triangle}
 use Rattle.edge_collapse.specs.EdgeCollapse.{meetsBorder, neighbours, affectsBoundary, neighbourRing, unsafe}
 use Rattle.promises.specs.Rooms.{Roomier}
 

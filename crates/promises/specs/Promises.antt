@@ -21,9 +21,9 @@ use Rattle.traversal.specs.Lists.{entries}
 use Rattle.traversal.specs.Ring.{ringOf}
 use Rattle.build.specs.Build.{build}
 use Rattle.edge_collapse.specs.EdgeCollapse.{meetsBorder, neighbours}
-use Rattle.edit.specs.declared.Around.{Around}
-use Rattle.edit.specs.declared.Triangle.{Triangle}
-use Rattle.edit.specs.Plans.{around, triangle}
+use Rattle.edit_plans.specs.declared.Around.{Around}
+use Rattle.edit_plans.specs.declared.Triangle.{Triangle}
+use Rattle.edit_plans.specs.Plans.{around, triangle}
 use Rattle.keeps.specs.Keeps.{Kept, AroundUsed, TriangleUsed}
 use Rattle.command.specs.declared.Edit.{Edit}
 use Rattle.command.specs.declared.Edit.the-variants.{Collapse, Flip, SplitEdge, SplitFace}

@@ -11,12 +11,12 @@ use Rattle.corner.specs.Corner.{absent, firstCorner}
 use Rattle.corner.specs.declared.Corner.{Corner}
 use Rattle.corner.specs.declared.Face.{Face}
 use Rattle.vertex.specs.declared.Point.{Point}
-use Rattle.edit.specs.declared.Around.{Around}
-use Rattle.edit.specs.Plans.{around, CornersThere, VerticesThere, EdgeThere}
-use Rattle.edit.specs.Flip.{flipEdge}
-use Rattle.edit.specs.SplitFace.{splitFace}
-use Rattle.edit.specs.SplitEdge.{splitEdge}
-use Rattle.edit.specs.Collapse.{collapseEdge}
+use Rattle.edit_plans.specs.declared.Around.{Around}
+use Rattle.edit_plans.specs.Plans.{around, CornersThere, VerticesThere, EdgeThere}
+use Rattle.edit_inner.specs.Collapse.{collapseEdge}
+use Rattle.edit_inner.specs.Flip.{flipEdge}
+use Rattle.edit_splits.specs.SplitEdge.{splitEdge}
+use Rattle.edit_splits.specs.SplitFace.{splitFace}
 use Rattle.table.specs.Table.{Table, opposite, Live}
 use Rattle.edge_collapse.specs.EdgeCollapse.{affectsBoundary}
 use Rattle.edge_collapse.proofs.Paper.{inner}

@@ -34,7 +34,7 @@ fn flip(
     if refusal != 0 {
         return refusal;
     }
-    edit::flip_edge(cv, co, vc, c);
+    edit_inner::flip_edge(cv, co, vc, c);
     0
 }
 
@@ -60,7 +60,7 @@ fn collapse(
     if a != 0 {
         return a;
     }
-    edit::collapse_edge(cv, co, cm, vc, vm, vp, counts, c, p);
+    edit_inner::collapse_edge(cv, co, cm, vc, vm, vp, counts, c, p);
     0
 }
 
@@ -89,7 +89,7 @@ fn split_edge(
             counts: counts,
         };
     }
-    let made = edit::split_edge(cv, co, cm, vc, vm, vp, counts, c, p);
+    let made = edit_splits::split_edge(cv, co, cm, vc, vm, vp, counts, c, p);
     Done {
         answer: 0,
         counts: made,
@@ -121,7 +121,7 @@ fn split_face(
             counts: counts,
         };
     }
-    let made = edit::split_face(cv, co, cm, vc, vm, vp, counts, f, p);
+    let made = edit_splits::split_face(cv, co, cm, vc, vm, vp, counts, f, p);
     Done {
         answer: 0,
         counts: made,

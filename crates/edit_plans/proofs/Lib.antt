@@ -1,0 +1,2 @@
+-- Laws of the plans and of two new faces.
+pub mod Made

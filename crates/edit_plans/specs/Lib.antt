@@ -1,0 +1,2 @@
+-- What the edits begin with.
+pub mod Plans
