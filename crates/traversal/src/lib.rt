@@ -8,7 +8,7 @@ ghost use mathlib.Core.Bool.{true, false, not, cond};
 ghost use mathlib.Core.List.{List, map};
 ghost use Prim.Native.Nat.{ℕ, _+_, _*_, _/_, _<_, _≤_, min};
 ghost use lib.Dec.{eqb, leb};
-ghost use lib.ListN.{length, getD};
+ghost use lib.ListN.{length};
 ghost use lib.Seq.{sets};
 ghost use Rattle.corner.specs.Corner.{absent, turn};
 ghost use Rattle.table.specs.Slots.{oppositeAt};
@@ -24,6 +24,7 @@ ghost use Rattle.traversal.specs.declared.Kind.the-variants.{Corners, Ve
 use corner::Corner;
 use table::Counts;
 use table::at;
+use table::at_there;
 use table::corner_of;
 use table::is_live;
 use table::is_shaped;
@@ -68,22 +69,14 @@ pub struct Ring {
 
 // ---- one swing
 
-// As `at`, where the slot is known to be inside the list: nothing is tested.
-fn slot(l: &[u32], i: usize, none: u32) -> u32
-    requires { ⌜ i < length (now l) ⌝ }
-    ensures { λ r. ⌜ r ≡ getD (now (l .entry)) i none ⌝ }
-{
-    l[i]
-}
-
 // Whether the three corners of the face that begins at slot b have mark 0. All three are read first: one test is made of them.
 fn unmarked(cm: &[u32], b: usize) -> bool
     requires { ⌜ b + 2 < length (now cm) ⌝ }
     ensures { λ r. ⌜ r ≡ unmarkedOf (now (cm .entry)) b ⌝ }
 {
-    let x = slot(cm, b, 1);
-    let y = slot(cm, b + 1, 1);
-    let z = slot(cm, b + 2, 1);
+    let x = at_there(cm, b, 1);
+    let y = at_there(cm, b + 1, 1);
+    let z = at_there(cm, b + 2, 1);
     if x == 0 {
         if y == 0 {
             return z == 0;
@@ -153,7 +146,7 @@ fn count_side(left: bool, co: &[u32], cm: &[u32], used: u32, start: Corner, room
     let mut via = start.turn_index(left);
     let mut rest = room;
     loop {
-        let o = slot(co, via, 4294967295);
+        let o = at_there(co, via, 4294967295);
         let b = o as usize / 3 * 3;
         if !all_live(cm, used, b) {
             return Count {
@@ -214,7 +207,7 @@ fn entry(kind: Kind, cv: &[u32], left: bool, o: Corner) -> u32
 {
     match kind {
         Kind::Corners => o.turn_index(left) as u32,
-        Kind::Vertices => slot(cv, o.0 as usize, 0),
+        Kind::Vertices => at_there(cv, o.0 as usize, 0),
         Kind::Faces => o.0 / 3,
         Kind::Edges => o.turn_index(!left) as u32,
         Kind::BoundingEdges => o.turn_index(left) as u32,
@@ -256,7 +249,7 @@ fn write_side(
     while i < end {
         list[i] = entry(kind, cv, left, Corner(at));
         i += 1;
-        at = slot(co, Corner(at).turn_index(!left), 4294967295);
+        at = at_there(co, Corner(at).turn_index(!left), 4294967295);
     }
 }
 
@@ -268,7 +261,7 @@ fn right_from(kind: Kind, co: &[u32], start: Corner) -> u32
     if twice(kind) {
         return start.next().0;
     }
-    slot(co, start.previous_index(), 4294967295)
+    at_there(co, start.previous_index(), 4294967295)
 }
 
 // ---- the call

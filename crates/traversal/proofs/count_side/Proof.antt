@@ -20,7 +20,6 @@ use Rattle.traversal.proofs.all_live.Reads as all-live-reads
 use Rattle.traversal.proofs.end_at.Reads as end-at-reads
 use Rattle.traversal.proofs.last_crossed.Reads as last-crossed-reads
 use Rattle.traversal.proofs.onward.Reads as onward-reads
-use Rattle.traversal.proofs.slot.Reads as slot-reads
 
 abbrev Inv-loop : tie.InvT-loop
 Inv-loop left co cm used room last via₀ rest₀ via rest =
@@ -39,8 +38,8 @@ turn-index-requires c κs = search needs
 loop-holds : tie.Need-loop-holds Inv-loop μ-loop
 loop-holds c = let a = c .before .before .before .before .args in (omega (arith, face-turn _ _ _ (a .left) (c .before .before .before .before .pre .2), c .turn-index .ensures, c .before .before .before .before .pre .0), c .before .last-crossed .ensures ∙ sym (ap (lastCrossed (a .left)) (ap (turn (not (a .left))) (c .turn-index .ensures) ∙ turn-forth (a .left) _)), counting-start _ _ _ refl)
 
-slot-requires : tie.Need-slot-requires Inv-loop μ-loop
-slot-requires c κs = c .loop .inv .0
+at-there-requires : tie.Need-at-there-requires Inv-loop μ-loop
+at-there-requires c κs = c .loop .inv .0
 
 cast-b : tie.Need-cast-b Inv-loop μ-loop
 cast-b c = search needs
@@ -58,16 +57,16 @@ end-at-requires : tie.Need-end-at-requires Inv-loop μ-loop
 end-at-requires c κs = search needs
 
 returns : tie.Need-returns Inv-loop μ-loop
-returns c = at-start _ _ _ _ _ _ _ (c .before .before .before .before .before .turn-index .ensures) _ _ (counting-stop _ _ _ _ (c .before .before .before .before .loop .inv .2) _ (over-end _ _ _ _ _ (c .before .before .before .before .loop .via) _ (c .before .before .before .slot .ensures) _ (c .before .before .all-live .ensures _ refl) (not-true _ (c .before .if1 .taken)) _ (c .end-at .ensures) _))
+returns c = at-start _ _ _ _ _ _ _ (c .before .before .before .before .before .turn-index .ensures) _ _ (counting-stop _ _ _ _ (c .before .before .before .before .loop .inv .2) _ (over-end _ _ _ _ _ (c .before .before .before .before .loop .via) _ (c .before .before .before .at-there .ensures) _ (c .before .before .all-live .ensures _ refl) (not-true _ (c .before .if1 .taken)) _ (c .end-at .ensures) _))
 
 sub-t18 : tie.Need-sub-t18 Inv-loop μ-loop
 sub-t18 c = omega arith
 
 returns-2 : tie.Need-returns-2 Inv-loop μ-loop
-returns-2 c = at-start _ _ _ _ _ _ _ (c .before .before .before .before .before .before .turn-index .ensures) _ _ (counting-stop _ _ _ _ (c .before .before .before .before .before .loop .inv .2) _ (over-closed _ _ _ _ _ (c .before .before .before .before .before .loop .via) _ (c .before .before .before .before .slot .ensures) _ (c .before .before .before .all-live .ensures _ refl) (not-false _ (c .before .before .if1 .left)) (omega arith) _ (c .before .before .before .before .before .loop .inv .1) _ (c .if2 .taken)))
+returns-2 c = at-start _ _ _ _ _ _ _ (c .before .before .before .before .before .before .turn-index .ensures) _ _ (counting-stop _ _ _ _ (c .before .before .before .before .before .loop .inv .2) _ (over-closed _ _ _ _ _ (c .before .before .before .before .before .loop .via) _ (c .before .before .before .before .at-there .ensures) _ (c .before .before .before .all-live .ensures _ refl) (not-false _ (c .before .before .if1 .left)) (omega arith) _ (c .before .before .before .before .before .loop .inv .1) _ (c .if2 .taken)))
 
 returns-3 : tie.Need-returns-3 Inv-loop μ-loop
-returns-3 c = at-start _ _ _ _ _ _ _ (c .before .before .before .before .before .before .before .turn-index .ensures) _ _ (counting-out _ _ _ _ (c .before .before .before .before .before .before .loop .inv .2) _ (over-out _ _ _ _ _ (c .before .before .before .before .before .before .loop .via) _ (c .before .before .before .before .before .slot .ensures) _ (c .before .before .before .before .all-live .ensures _ refl) (not-false _ (c .before .before .before .if1 .left)) (omega arith) _ (c .before .before .before .before .before .before .loop .inv .1) _ (c .before .if2 .left) (c .if3 .taken)) (c .if3 .taken))
+returns-3 c = at-start _ _ _ _ _ _ _ (c .before .before .before .before .before .before .before .turn-index .ensures) _ _ (counting-out _ _ _ _ (c .before .before .before .before .before .before .loop .inv .2) _ (over-out _ _ _ _ _ (c .before .before .before .before .before .before .loop .via) _ (c .before .before .before .before .before .at-there .ensures) _ (c .before .before .before .before .all-live .ensures _ refl) (not-false _ (c .before .before .before .if1 .left)) (omega arith) _ (c .before .before .before .before .before .before .loop .inv .1) _ (c .before .if2 .left) (c .if3 .taken)) (c .if3 .taken))
 
 sub-rest : tie.Need-sub-rest Inv-loop μ-loop
 sub-rest c = omega arith
@@ -82,7 +81,7 @@ loop-less : tie.Need-loop-less Inv-loop μ-loop
 loop-less c = omega arith
 
 loop-again : tie.Need-loop-again Inv-loop μ-loop
-loop-again c = let a = c .before .before .before .before .before .before .before .before .before .before .before .before .args in (omega (arith, over-inside (a .left) (now (a .co)) (now (a .cm)) (a .used) 0 (c .before .before .before .before .before .before .before .loop .via) _ (c .before .before .before .before .before .before .slot .ensures) _ (c .before .before .before .before .before .all-live .ensures _ refl) (not-false _ (c .before .before .before .before .if1 .left)), c .onward .ensures, c .before .before .before .before .before .before .before .before .before .before .before .before .pre .0), c .before .before .before .before .before .before .before .loop .inv .1, counting-more _ _ _ _ (c .before .before .before .before .before .before .before .loop .inv .2) _ _ (over-more _ _ _ _ _ (c .before .before .before .before .before .before .before .loop .via) _ (c .before .before .before .before .before .before .slot .ensures) _ (c .before .before .before .before .before .all-live .ensures _ refl) (not-false _ (c .before .before .before .before .if1 .left)) (omega arith) _ (c .before .before .before .before .before .before .before .loop .inv .1) _ (c .before .before .if2 .left) (c .before .if3 .left) _ (c .onward .ensures)) (c .before .if3 .left))
+loop-again c = let a = c .before .before .before .before .before .before .before .before .before .before .before .before .args in (omega (arith, over-inside (a .left) (now (a .co)) (now (a .cm)) (a .used) 0 (c .before .before .before .before .before .before .before .loop .via) _ (c .before .before .before .before .before .before .at-there .ensures) _ (c .before .before .before .before .before .all-live .ensures _ refl) (not-false _ (c .before .before .before .before .if1 .left)), c .onward .ensures, c .before .before .before .before .before .before .before .before .before .before .before .before .pre .0), c .before .before .before .before .before .before .before .loop .inv .1, counting-more _ _ _ _ (c .before .before .before .before .before .before .before .loop .inv .2) _ _ (over-more _ _ _ _ _ (c .before .before .before .before .before .before .before .loop .via) _ (c .before .before .before .before .before .before .at-there .ensures) _ (c .before .before .before .before .before .all-live .ensures _ refl) (not-false _ (c .before .before .before .before .if1 .left)) (omega arith) _ (c .before .before .before .before .before .before .before .loop .inv .1) _ (c .before .before .if2 .left) (c .before .if3 .left) _ (c .onward .ensures)) (c .before .if3 .left))
 
 pub count-side-spec : {M : Type 1} → statement M
 count-side-spec =
@@ -93,7 +92,7 @@ count-side-spec =
     last-crossed-requires
     turn-index-requires
     loop-holds
-    slot-requires
+    at-there-requires
     cast-b
     mul-b
     all-live-requires

@@ -12,7 +12,6 @@ use Rattle.traversal.proofs.entry.Tie as tie
 use Rattle.traversal.proofs.entry.Reads as reads
 use Rattle.traversal.proofs.entry.Lts as lts
 use Rattle.corner.proofs.Corner.turn_index.Reads as turn-index-reads
-use Rattle.traversal.proofs.slot.Reads as slot-reads
 
 enum-told : tie.Need-enum-told
 enum-told c = search needs
@@ -26,11 +25,11 @@ cast-result c = let a = c .before .before .before .before .args in omega (arith,
 enum-told-2 : tie.Need-enum-told-2
 enum-told-2 c = search needs
 
-cast-slot : tie.Need-cast-slot
-cast-slot c = search needs
+cast-at-there : tie.Need-cast-at-there
+cast-at-there c = search needs
 
-slot-requires : tie.Need-slot-requires
-slot-requires c κs = search needs
+at-there-requires : tie.Need-at-there-requires
+at-there-requires c κs = search needs
 
 enum-told-3 : tie.Need-enum-told-3
 enum-told-3 c = search needs
@@ -59,7 +58,7 @@ returns c = rw (c .before .enum-told .given .1) (c .turn-index .ensures)
 
 returns-2 : tie.Need-returns-2
 unfolding entry
-returns-2 c = let a = c .before .before .before .before .before .args in rw (c .before .before .enum-told2 .given .1, turn-forth (a .left) (a .o .0)) (c .slot .ensures)
+returns-2 c = let a = c .before .before .before .before .before .args in rw (c .before .before .enum-told2 .given .1, turn-forth (a .left) (a .o .0)) (c .at-there .ensures)
 
 returns-3 : tie.Need-returns-3
 unfolding entry
@@ -81,8 +80,8 @@ entry-spec =
     turn-index-requires
     cast-result
     enum-told-2
-    cast-slot
-    slot-requires
+    cast-at-there
+    at-there-requires
     enum-told-3
     enum-told-4
     turn-index-requires-2

@@ -10,7 +10,6 @@ use Rattle.traversal.proofs.right_from.Reads as reads
 use Rattle.traversal.proofs.right_from.Lts as lts
 use Rattle.corner.proofs.Corner.next.Reads as next-reads
 use Rattle.corner.proofs.Corner.previous_index.Reads as previous-index-reads
-use Rattle.traversal.proofs.slot.Reads as slot-reads
 use Rattle.traversal.proofs.twice.Reads as twice-reads
 
 twice-requires : tie.Need-twice-requires
@@ -25,13 +24,13 @@ returns c = rw (← c .before .before .twice .ensures, c .before .if1 .taken) (c
 previous-index-requires : tie.Need-previous-index-requires
 previous-index-requires c κs = search needs
 
-slot-requires : tie.Need-slot-requires
-slot-requires c κs = search needs
+at-there-requires : tie.Need-at-there-requires
+at-there-requires c κs = search needs
 
 returns-2 : tie.Need-returns-2
-returns-2 c = rw (← c .before .before .before .twice .ensures, c .before .before .if1 .left) (c .slot .ensures ∙ ap (λ (i : ℕ). oppositeAt (now (c .before .before .before .before .before .args .co)) i) (c .before .previous-index .ensures))
+returns-2 c = rw (← c .before .before .before .twice .ensures, c .before .before .if1 .left) (c .at-there .ensures ∙ ap (λ (i : ℕ). oppositeAt (now (c .before .before .before .before .before .args .co)) i) (c .before .previous-index .ensures))
 
 pub right-from-spec : {M : Type 1} → statement M
 right-from-spec =
     tie.close
-    (tie.spec twice-requires next-requires returns previous-index-requires slot-requires returns-2)
+    (tie.spec twice-requires next-requires returns previous-index-requires at-there-requires returns-2)

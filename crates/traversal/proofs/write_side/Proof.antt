@@ -12,7 +12,6 @@ use Rattle.traversal.proofs.write_side.Reads as reads
 use Rattle.traversal.proofs.write_side.Lts as lts
 use Rattle.corner.proofs.Corner.turn_index.Reads as turn-index-reads
 use Rattle.traversal.proofs.entry.Reads as entry-reads
-use Rattle.traversal.proofs.slot.Reads as slot-reads
 
 abbrev Inv-loop : tie.InvT-loop
 Inv-loop kind left cv co o list₀ first n end at₀ i₀ list at i = Writing (entry kind cv left) left co (length cv) list₀ list first n o i at
@@ -41,14 +40,14 @@ add-i c = omega arith
 turn-index-requires : tie.Need-turn-index-requires Inv-loop μ-loop
 turn-index-requires c κs = search needs
 
-slot-requires : tie.Need-slot-requires Inv-loop μ-loop
-slot-requires c κs = rw (c .turn-index .ensures) (writing-via _ _ _ _ _ _ _ _ _ _ _ (c .before .before .before .loop .inv) (c .before .before .loop-test .taken))
+at-there-requires : tie.Need-at-there-requires Inv-loop μ-loop
+at-there-requires c κs = rw (c .turn-index .ensures) (writing-via _ _ _ _ _ _ _ _ _ _ _ (c .before .before .before .loop .inv) (c .before .before .loop-test .taken))
 
 loop-less : tie.Need-loop-less Inv-loop μ-loop
 loop-less c = omega arith
 
 loop-again : tie.Need-loop-again Inv-loop μ-loop
-loop-again c = writing-more _ _ _ _ _ _ _ _ _ _ _ (c .before .before .before .before .loop .inv) (c .before .before .before .loop-test .taken) _ (c .before .before .entry .ensures) _ refl _ (c .before .turn-index .ensures) _ (c .slot .ensures)
+loop-again c = writing-more _ _ _ _ _ _ _ _ _ _ _ (c .before .before .before .before .loop .inv) (c .before .before .before .loop-test .taken) _ (c .before .before .entry .ensures) _ refl _ (c .before .turn-index .ensures) _ (c .at-there .ensures)
 
 same-length : tie.Need-same-length Inv-loop μ-loop
 same-length c = c .before .loop .inv .size
@@ -69,7 +68,7 @@ write-side-spec =
     slice-write-list
     add-i
     turn-index-requires
-    slot-requires
+    at-there-requires
     loop-less
     loop-again
     same-length
