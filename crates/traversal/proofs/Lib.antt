@@ -3,5 +3,6 @@ pub mod Steps
 pub mod Reached
 pub mod Loops
 pub mod Answers
+pub mod Short
 pub mod Sound
 pub mod Meshes

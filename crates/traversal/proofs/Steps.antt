@@ -103,6 +103,11 @@ module _ (mark : List ℕ) (used c : ℕ) where
   pub face-used : faceLive mark used c ≡ true → c < used
   face-used e = live-true mark used c (face-lives e .0) .0
 
+-- the corners of a face are live together
+pub face-same : (mark : List ℕ) (used c d : ℕ) → d / 3 ≡ c / 3 → faceLive mark used d ≡ faceLive mark used c
+face-same mark used c d e =
+    face-three mark used d (c / 3 * 3) (ap (λ (f : ℕ). f * 3) (sym e)) ∙ sym (face-three mark used c (c / 3 * 3) refl)
+
 -- ---- a swing
 
 module _ (left : Bool) (opp mark : List ℕ) (used : ℕ) where

@@ -1,6 +1,8 @@
 -- What a ring call answers, counts and leaves. Document 01, "Ring lists and the walker": "Order: 1, 9, 10, 15, 16."
 use Prim.Native.Nat.{ℕ, _+_, min}
 use mathlib.Core.List.{List, _++_}
+use mathlib.Core.Path.{_≡_}
+use mathlib.Core.Logic.{_≢_}
 use mathlib.Core.Bool.{cond}
 use lib.ListN.{length, drop}
 use lib.Dec.{ltb, leb, eqb}
@@ -45,6 +47,20 @@ abbrev pub walked : Kind → List ℕ → Walk → List ℕ → Outcome
 walked kind cv tangled list = refused 15 list
 walked kind cv (closed c l) list = listed (length (visits (closed c l))) (entries kind cv (closed c l)) list
 walked kind cv (open′ c l r) list = listed (length (visits (open′ c l r))) (entries kind cv (open′ c l r)) list
+
+-- a call that wrote n entries for as many visits
+abbrev pub full : ℕ → List ℕ → Outcome
+full n list = record { answer = 0; visited = n; written = n; list = list }
+
+-- what is written on the way: nothing past the first 16 words, and all of a ring of n corners where n is not 0
+pub record Short (kind : Kind) (cv : List ℕ) (w : Walk) (n : ℕ) (before after : List ℕ) : Type 0 where
+  pub past : drop 16 after ≡ drop 16 before
+  pub ring : n ≢ 0 → full n after ≡ walked kind cv w before
+
+-- the same once the first 16 words are put back where n is 0
+pub record Tried (kind : Kind) (cv : List ℕ) (w : Walk) (n : ℕ) (before after : List ℕ) : Type 0 where
+  pub none : n ≡ 0 → after ≡ before
+  pub ring : n ≢ 0 → full n after ≡ walked kind cv w before
 
 -- the walk about v begins at its corner
 abbrev pub walkOf : Table → ℕ → Walk

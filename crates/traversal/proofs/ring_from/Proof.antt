@@ -1,76 +1,38 @@
 -- `ring_from` meets its contract. Assumes nothing.
-use Rattle.traversal.proofs.Answers.{was-tangled, answer-tangled, answer-short, has-room}
-use mathlib.Core.Path.{sym, _∙_}
-use borrow.Author.Tests.{not-true, not-false}
+use Rattle.traversal.proofs.Short.{tried-else}
 use borrow.Author.Needs.{needs}
 use Rattle.traversal.proofs.ring_from.Statement.{statement}
 use Rattle.traversal.proofs.ring_from.Tie as tie
+use Rattle.traversal.proofs.ring_from.Reads as reads
+use Rattle.traversal.proofs.ring_from.Lts as lts
+use Rattle.traversal.proofs.by_one_walk.Reads as by-one-walk-reads
+use Rattle.traversal.proofs.by_two_walks.Reads as by-two-walks-reads
 
-count-walk-requires : tie.Need-count-walk-requires
-count-walk-requires c κs = (c .before .before .before .before .pre .opposites, c .before .before .before .before .pre .marks)
+by-one-walk-requires : tie.Need-by-one-walk-requires
+by-one-walk-requires c κs = search needs
 
-has-room-requires : tie.Need-has-room-requires
-has-room-requires c κs = search needs
-
-too-short-requires : tie.Need-too-short-requires
-too-short-requires c κs = search needs
-
-refused-requires : tie.Need-refused-requires
-refused-requires c κs = search needs
-
-returns : tie.Need-returns
-returns c = answer-short _ _ _ _ _ _ _ _ (c .before .before .before .before .count-walk .ensures) (sym (c .before .before .before .has-room .ensures) ∙ not-true _ (c .before .before .if1 .taken)) _ (c .before .too-short .ensures) _ (c .refused .ensures)
-
-enum-told : tie.Need-enum-told
-enum-told c = search needs
-
-refused-requires-2 : tie.Need-refused-requires-2
-refused-requires-2 c κs = search needs
-
-enum-known-w : tie.Need-enum-known-w
-enum-known-w c = search needs
-
-write-closed-requires : tie.Need-write-closed-requires
-write-closed-requires c κs = (c .before .before .before .before .before .before .before .before .before .before .before .pre, (sym (c .before .before .w .given .1) ∙ c .before .before .before .before .before .before .count-walk .ensures, has-room _ _ _ _ (c .before .before .before .before .before .has-room .ensures) (not-false _ (c .before .before .before .before .if1 .left)) _ (c .before .before .w .given .1)))
-
-enum-known-w-2 : tie.Need-enum-known-w-2
-enum-known-w-2 c = search needs
-
-write-open-requires : tie.Need-write-open-requires
-write-open-requires c κs = (c .before .before .before .before .before .before .before .before .before .before .before .pre, (sym (c .before .before .w2 .given .1) ∙ c .before .before .before .before .before .before .count-walk .ensures, has-room _ _ _ _ (c .before .before .before .before .before .has-room .ensures) (not-false _ (c .before .before .before .before .if1 .left)) _ (c .before .before .w2 .given .1)))
-
-returns-2 : tie.Need-returns-2
-returns-2 c = answer-tangled _ _ _ _ _ _ _ _ (c .refused2 .ensures) (was-tangled _ _ _ _ (sym (c .before .enum-told .given .1) ∙ c .before .before .before .before .before .count-walk .ensures))
+by-two-walks-requires : tie.Need-by-two-walks-requires
+by-two-walks-requires c κs = search needs
 
 same-length : tie.Need-same-length
 same-length c = search needs
 
-returns-3 : tie.Need-returns-3
-returns-3 c = search needs
+returns : tie.Need-returns
+returns c = tried-else _ _ _ _ _ _ (c .before .before .before .before .before .before .before .by-one-walk .ensures) (c .before .before .before .before .if1 .taken) _ (c .before .before .by-two-walks .ensures)
 
 same-length-2 : tie.Need-same-length-2
 same-length-2 c = search needs
 
-returns-4 : tie.Need-returns-4
-returns-4 c = search needs
+returns-2 : tie.Need-returns-2
+returns-2 c = c .before .before .before .by-one-walk .ensures .ring (c .if1 .left)
 
 pub ring-from-spec : {M : Type 1} → statement M
 ring-from-spec =
     tie.close
     (tie.spec
-    count-walk-requires
-    has-room-requires
-    too-short-requires
-    refused-requires
-    returns
-    enum-told
-    refused-requires-2
-    enum-known-w
-    write-closed-requires
-    enum-known-w-2
-    write-open-requires
-    returns-2
+    by-one-walk-requires
+    by-two-walks-requires
     same-length
-    returns-3
+    returns
     same-length-2
-    returns-4)
+    returns-2)

@@ -32,7 +32,7 @@ mul-list : tie.Need-mul-list Inv-loop μ-loop
 mul-list c = search needs
 
 slice-write-list : tie.Need-slice-write-list Inv-loop μ-loop
-slice-write-list c = omega (arith, c .before .before .loop .inv .size, c .before .before .before .before .before .before .pre .1, c .before .loop-test .taken)
+slice-write-list c = omega (arith, c .before .before .loop .inv .done .size, c .before .before .before .before .before .before .pre .1, c .before .loop-test .taken)
 
 add-i : tie.Need-add-i Inv-loop μ-loop
 add-i c = omega arith
@@ -50,7 +50,7 @@ loop-again : tie.Need-loop-again Inv-loop μ-loop
 loop-again c = writing-more _ _ _ _ _ _ _ _ _ _ _ (c .before .before .before .before .loop .inv) (c .before .before .before .loop-test .taken) _ (c .before .before .entry .ensures) _ refl _ (c .before .turn-index .ensures) _ (c .at-there .ensures)
 
 same-length : tie.Need-same-length Inv-loop μ-loop
-same-length c = c .before .loop .inv .size
+same-length c = c .before .loop .inv .done .size
 
 returns : tie.Need-returns Inv-loop μ-loop
 returns c = writing-stop _ _ _ _ _ _ _ _ _ _ _ (c .before .loop .inv) (c .loop-test .left)
