@@ -20,9 +20,9 @@ use Rattle.fan.proofs.Visits.{after, w, v, leftward, rightward}
 use Rattle.fan.proofs.Tables.{table-linked}
 use Rattle.ring.specs.Ring.{Side, side, ring as ringOf}
 use Rattle.ring.proofs.Exact.{bordered, side-is}
-use Rattle.traversal.specs.declared.Kind.the-variants.{Vertices}
-use Rattle.traversal.specs.Walk.{walk, visits}
-use Rattle.traversal.specs.Lists.{entry, entries}
+use Rattle.lists.specs.declared.Kind.the-variants.{Vertices}
+use Rattle.visits.specs.Walk.{walk, visits}
+use Rattle.lists.specs.Lists.{entry, entries}
 use Rattle.traversal.proofs.Sound.{never-15, corner-calm, corner-healthy, Healthy, ring, fan}
 use Rattle.edge_collapse.specs.EdgeCollapse.{meetsBorder, neighbours, affectsBoundary}
 use Rattle.edge_collapse.proofs.Paper.{inner}

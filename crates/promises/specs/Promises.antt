@@ -14,10 +14,10 @@ use Rattle.vertex.specs.declared.Point.{Point}
 use Rattle.table.specs.Table.{Table, Shaped, cornerRoom, vertexRoom, vertex, opposite, corner, Live}
 use Rattle.table.specs.Rules.{WellFormed}
 use Rattle.ring.specs.Ring.{ring}
-use Rattle.traversal.specs.declared.Kind.{Kind}
-use Rattle.traversal.specs.declared.Kind.the-variants.{Vertices}
-use Rattle.traversal.specs.Walk.{tangled, walk, visits}
-use Rattle.traversal.specs.Lists.{entries}
+use Rattle.lists.specs.declared.Kind.{Kind}
+use Rattle.lists.specs.declared.Kind.the-variants.{Vertices}
+use Rattle.visits.specs.Walk.{tangled, walk, visits}
+use Rattle.lists.specs.Lists.{entries}
 use Rattle.traversal.specs.Ring.{ringOf}
 use Rattle.build.specs.Build.{build}
 use Rattle.edge_collapse.specs.EdgeCollapse.{meetsBorder, neighbours}

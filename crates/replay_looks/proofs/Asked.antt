@@ -3,7 +3,7 @@ use Prim.Native.Nat.{ℕ}
 use mathlib.Core.Path.{_≡_}
 use borrow.Author.Tests.{ne-eqb}
 use Rattle.table.specs.Table.{Table}
-use Rattle.traversal.specs.declared.Kind.the-variants.{Corners, Vertices, Faces, Edges, BoundingEdges}
+use Rattle.lists.specs.declared.Kind.the-variants.{Corners, Vertices, Faces, Edges, BoundingEdges}
 use Rattle.walker.specs.Walker.{toNext, toPrevious, toOpposite, swungLeft, swungRight}
 use Rattle.replay_looks.specs.Look.{ringKindOf, moveOf}
 

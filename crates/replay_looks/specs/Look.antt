@@ -6,8 +6,8 @@ use lib.Dec.{eqb, leb}
 use lib.Ieee.{Float}
 use lib.ListN.{length, getD, take, drop}
 use Rattle.table.specs.Table.{Table}
-use Rattle.traversal.specs.declared.Kind.{Kind}
-use Rattle.traversal.specs.declared.Kind.the-variants.{Corners, Vertices, Faces, Edges, BoundingEdges}
+use Rattle.lists.specs.declared.Kind.{Kind}
+use Rattle.lists.specs.declared.Kind.the-variants.{Corners, Vertices, Faces, Edges, BoundingEdges}
 use Rattle.walker.specs.declared.Moved.{Moved}
 use Rattle.walker.specs.Walker.{toNext, toPrevious, toOpposite, swungLeft, swungRight}
 use Rattle.records.specs.Same.{holdsOf, holdNumbersOf}

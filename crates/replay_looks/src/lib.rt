@@ -3,11 +3,13 @@
 ghost use mathlib.Core.Path.{_≡_};
 ghost use Prim.Native.Nat.{_≤_};
 ghost use Rattle.table.specs.Table.{table};
-ghost use Rattle.traversal.specs.Ring.{outcome, ringOf};
+ghost use Rattle.lists.specs.Outcome.{outcome};
+ghost use Rattle.traversal.specs.Ring.{ringOf};
 ghost use Rattle.replay_looks.specs.Judge.{wordIs, twoAre, threeAre, builtAs, checkedAs, ranAs, ringedAs, bitOf, movedAs};
 ghost use Rattle.replay_looks.specs.Look.{ringKindOf, moveOf, nextPart, wholePart, partRight, pointsRight, cornersRight, verticesRight};
 use corner::Corner;
 use flag::both;
+use lists::Ring;
 use records::first;
 use records::hold_numbers;
 use records::holds;
@@ -16,7 +18,6 @@ use records::past;
 use table::Counts;
 use table::at;
 use table::fill;
-use traversal::Ring;
 use vertex::Vertex;
 use walker::Moved;
 

@@ -4,7 +4,7 @@ use mathlib.Core.Bool.{cond}
 use mathlib.Core.Path.{_≡_}
 use mathlib.Core.List.{List}
 use Rattle.checker.specs.declared.Verdict.{Verdict}
-use Rattle.traversal.specs.Ring.{Outcome}
+use Rattle.lists.specs.Outcome.{RingOutcome}
 use Rattle.walker.specs.declared.Step.{Step}
 use Rattle.walker.specs.declared.Moved.{Moved as Move}
 use Rattle.strandomir.specs.declared.Checked.{Checked}
@@ -14,7 +14,7 @@ use Rattle.strandomir.specs.declared.Moved.{Moved}
 abbrev pub verdict : Checked → Verdict
 verdict r = record { answer = r .answer; rule = r .rule; slot = r .slot }
 
-abbrev pub listing : Listed → List ℕ → Outcome
+abbrev pub listing : Listed → List ℕ → RingOutcome
 listing r list = record { answer = r .answer; visited = r .visited; written = r .written; list = list }
 
 -- C has no bool: 1 where the walker moved

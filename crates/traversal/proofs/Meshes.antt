@@ -6,15 +6,16 @@ use mathlib.Core.List.{List, [], _∷_}
 use Rattle.corner.specs.Corner.{next, previous}
 use Rattle.table.specs.Table.{shapedBy, live}
 use Rattle.table.specs.Meshes.{meshB, meshT}
-use Rattle.traversal.specs.Walk.{faceLive, swing, side, leftOf, rightOf, afterLeft, afterRight, walk}
-use Rattle.traversal.specs.Lists.{entry, twice}
-use Rattle.traversal.specs.Ring.{Outcome, refused, ringOf}
-use Rattle.traversal.specs.declared.Kind.the-variants.{Corners, Vertices, Faces, Edges, BoundingEdges}
+use Rattle.visits.specs.Walk.{faceLive, swing, side, leftOf, rightOf, afterLeft, afterRight, walk}
+use Rattle.lists.specs.Lists.{entry, twice}
+use Rattle.lists.specs.Outcome.{RingOutcome, refused}
+use Rattle.traversal.specs.Ring.{ringOf}
+use Rattle.lists.specs.declared.Kind.the-variants.{Corners, Vertices, Faces, Edges, BoundingEdges}
 
 nines : List ℕ
 nines = 9 ∷ 9 ∷ 9 ∷ 9 ∷ 9 ∷ []
 
-done : ℕ → ℕ → List ℕ → Outcome
+done : ℕ → ℕ → List ℕ → RingOutcome
 done n m l = record { answer = 0; visited = n; written = m; list = l }
 
 B-corners-0 : ringOf Corners 0 meshB nines ≡ done 2 2 (3 ∷ 0 ∷ 9 ∷ 9 ∷ 9 ∷ [])

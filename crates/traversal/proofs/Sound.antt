@@ -4,7 +4,7 @@ use Prim.Native.Nat.{ℕ, zero, suc, _+_, _-_, _≤_, _<_, min}
 use mathlib.Core.Path.{_≡_, refl, ap, sym, _∙_}
 use mathlib.Core.Logic.{_≢_}
 use mathlib.Core.Bool.{Bool, true, false, cond, _&&_}
-use mathlib.Core.List.{List, [], _++_, List·Memᴰ}
+use mathlib.Core.List.{List, _++_, List·Memᴰ}
 use native.Mathlib.Omega.{arith}
 use borrow.Author.Tests.{eq-eqb, ne-eqb, ltb-true, eqb-true}
 use lib.Dec.{eqb, ltb, leb}
@@ -19,16 +19,17 @@ use Rattle.fan.proofs.Walk.{it, Stop, border, closes, Walk}
 use Rattle.fan.proofs.Ring.{stuckL, stuckR, open-right}
 use Rattle.fan.proofs.Visits.{after, length-after, Covers, Sound, w, v, leftward, rightward, ring-covers, fan-covers, total, covers-sound}
 use Rattle.fan.proofs.Tables.{table-linked, table-fan}
-use Rattle.traversal.specs.Walk as Specs
-use Rattle.traversal.specs.Walk.{faceLive, swing, Side, stop, more, side, leftOf, rightOf, tangled, closed, open′, afterLeft, afterRight, walk, visits}
-use Rattle.traversal.specs.Lists.{entries}
-use Rattle.traversal.specs.Ring.{listed, refused, walked, usedCorners, usedVertices, walkOf, ringOf}
+use Rattle.visits.specs.Walk as Specs
+use Rattle.visits.specs.Walk.{faceLive, swing, Side, stop, more, side, leftOf, rightOf, tangled, closed, open′, afterLeft, afterRight, walk, visits}
+use Rattle.lists.specs.Lists.{entries}
+use Rattle.lists.specs.Outcome.{listed, refused, walked}
+use Rattle.traversal.specs.Ring.{usedCorners, usedVertices, walkOf, ringOf}
 use Rattle.traversal.specs.Promises.{VisitsBounded, NeverTangled, VisitsExact}
-use Rattle.traversal.proofs.Answers.{visits-bound}
-use Rattle.traversal.proofs.Steps.{lives-face, swing-border, swing-to, side-border, side-closed, side-more}
-use Rattle.traversal.specs.declared.Kind.{Kind}
-use Rattle.traversal.specs.declared.End.{End}
-use Rattle.traversal.specs.declared.End.the-variants.{AtBorder, AtStart}
+use Rattle.visits.proofs.Counting.{visits-bound}
+use Rattle.visits.proofs.Steps.{lives-face, swing-border, swing-to, side-border, side-closed, side-more}
+use Rattle.lists.specs.declared.Kind.{Kind}
+use Rattle.visits.specs.declared.End.{End}
+use Rattle.visits.specs.declared.End.the-variants.{AtBorder, AtStart}
 
 -- ---- one side
 

@@ -1,6 +1,3 @@
--- The walk about a vertex, its five lists, and what a ring call answers.
-pub mod Walk
-pub mod Reached
-pub mod Lists
+-- What a ring call answers.
 pub mod Ring
 pub mod Promises

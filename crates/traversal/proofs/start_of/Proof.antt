@@ -12,7 +12,7 @@ use Rattle.table.proofs.at.Reads as at-reads
 use Rattle.table.proofs.corner_of.Reads as corner-of-reads
 use Rattle.table.proofs.is_shaped.Reads as is-shaped-reads
 use Rattle.traversal.proofs.stopped.Reads as stopped-reads
-use Rattle.traversal.proofs.used_slots.Reads as used-slots-reads
+use Rattle.visits.proofs.used_slots.Reads as used-slots-reads
 
 is-shaped-requires : tie.Need-is-shaped-requires
 is-shaped-requires c κs = search needs

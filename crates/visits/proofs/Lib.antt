@@ -1,0 +1,3 @@
+-- Laws of swings and of the counted walk.
+pub mod Steps
+pub mod Counting

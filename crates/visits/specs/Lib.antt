@@ -1,0 +1,2 @@
+-- The walk about a vertex.
+pub mod Walk
