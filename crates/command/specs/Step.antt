@@ -4,8 +4,8 @@ use lib.Dec.{eqb}
 use Rattle.table.specs.Table.{Table}
 use Rattle.edit_inner.specs.Collapse.{collapseEdge}
 use Rattle.edit_inner.specs.Flip.{flipEdge}
-use Rattle.edit_splits.specs.SplitEdge.{splitEdge}
-use Rattle.edit_splits.specs.SplitFace.{splitFace}
+use Rattle.split_parts.specs.SplitEdge.{splitEdge}
+use Rattle.split_parts.specs.SplitFace.{splitFace}
 use Rattle.command.specs.declared.Edit.{Edit}
 use Rattle.command.specs.declared.Edit.the-variants.{Collapse, Flip, SplitEdge, SplitFace, Unknown}
 use Rattle.command.specs.Answers.{answer}

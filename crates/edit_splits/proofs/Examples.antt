@@ -9,8 +9,8 @@ use Rattle.table.specs.Table.{Table, table, extended}
 use Rattle.table.specs.Meshes.{meshA, meshB, one, two, three}
 use Rattle.ring.specs.Ring.{side, ring}
 use Rattle.edit_plans.specs.Plans.{triangle, around}
-use Rattle.edit_splits.specs.SplitEdge.{splitPoints, splitCorners, innerVertices, innerOpposites, splitInnerEdge, boundaryVertices, boundaryOpposites, splitBoundaryEdge, splitEdge}
-use Rattle.edit_splits.specs.SplitFace.{faceVertices, faceOpposites, faceCorners, splitFace}
+use Rattle.split_parts.specs.SplitEdge.{splitPoints, splitCorners, innerVertices, innerOpposites, splitInnerEdge, boundaryVertices, boundaryOpposites, splitBoundaryEdge, splitEdge}
+use Rattle.split_parts.specs.SplitFace.{faceVertices, faceOpposites, faceCorners, splitFace}
 
 -- two faces 0 1 2 and 0 2 1 back to back: pairs 0-3, 1-5, 2-4
 abbrev pillow : Table

@@ -14,9 +14,9 @@ use Rattle.table.specs.Table.{Table, table, opposite}
 use Rattle.edit_plans.specs.declared.Around.{Around}
 use Rattle.edit_plans.specs.declared.Triangle.{Triangle}
 use Rattle.edit_plans.specs.Plans.{triangle, around, six}
-use Rattle.edit_splits.specs.SplitEdge.{splitPoints, splitCorners, innerVertices, innerOpposites, splitInnerEdge}
-use Rattle.edit_splits.specs.SplitEdge.{boundaryVertices, boundaryOpposites, splitBoundaryEdge, splitEdge}
-use Rattle.edit_splits.specs.SplitFace.{faceVertices, faceOpposites, faceCorners, splitFace}
+use Rattle.split_parts.specs.SplitEdge.{splitPoints, splitCorners, innerVertices, innerOpposites, splitInnerEdge}
+use Rattle.split_parts.specs.SplitEdge.{boundaryVertices, boundaryOpposites, splitBoundaryEdge, splitEdge}
+use Rattle.split_parts.specs.SplitFace.{faceVertices, faceOpposites, faceCorners, splitFace}
 
 pub boundary-made : (cv co cm vc vm : List ℕ) (vp : List Float) (u n c : ℕ) (at : Point) {c0 : Corner} {p : Triangle}
     {cv′ co′ cm′ vc′ vm′ : List ℕ} {vp′ : List Float} → c0 .0 ≡ previous c → p ≡ triangle cv co (c0 .0)

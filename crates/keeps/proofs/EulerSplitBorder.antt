@@ -25,7 +25,7 @@ use Rattle.vertex.specs.Point.{finitePoint}
 use Rattle.table.specs.Slots.{pointAt}
 use Rattle.table.specs.Euler.{SameEuler}
 use Rattle.edit_plans.specs.Plans.{triangle}
-use Rattle.edit_splits.specs.SplitEdge.{splitPoints, splitCorners, boundaryVertices, boundaryOpposites, splitBoundaryEdge}
+use Rattle.split_parts.specs.SplitEdge.{splitPoints, splitCorners, boundaryVertices, boundaryOpposites, splitBoundaryEdge}
 use Rattle.keeps.proofs.NewVertex.{LiveV1, old-vertex, new-one, was-vertex, split-finite}
 use Rattle.fan.proofs.Tables.{table-linked}
 use Rattle.keeps.proofs.SplitBorderTable.{t′, the-rim, cs, cv′, co′, vc′}

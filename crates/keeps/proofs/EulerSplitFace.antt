@@ -23,7 +23,7 @@ use Rattle.vertex.specs.Point.{finitePoint}
 use Rattle.table.specs.Slots.{pointAt, withPoint}
 use Rattle.table.specs.Euler.{SameEuler}
 use Rattle.edit_plans.specs.Plans.{triangle}
-use Rattle.edit_splits.specs.SplitFace.{faceVertices, faceOpposites, faceCorners, splitFace}
+use Rattle.split_parts.specs.SplitFace.{faceVertices, faceOpposites, faceCorners, splitFace}
 use Rattle.keeps.proofs.Writes.{six-push6}
 use Rattle.fan.proofs.Tables.{table-linked}
 use Rattle.keeps.proofs.NewVertex.{LiveV1, old-vertex, new-one, was-vertex, placed-finite}

@@ -23,7 +23,7 @@ use Rattle.vertex.specs.Point.{finitePoint}
 use Rattle.table.specs.Slots.{pointAt}
 use Rattle.table.specs.Euler.{SameEuler}
 use Rattle.edit_plans.specs.Plans.{around}
-use Rattle.edit_splits.specs.SplitEdge.{splitPoints, splitCorners, innerVertices, innerOpposites, splitInnerEdge}
+use Rattle.split_parts.specs.SplitEdge.{splitPoints, splitCorners, innerVertices, innerOpposites, splitInnerEdge}
 use Rattle.keeps.proofs.Writes.{six-push6}
 use Rattle.keeps.proofs.NewVertex.{LiveV1, old-vertex, new-one, was-vertex, split-finite}
 use Rattle.fan.proofs.Tables.{table-linked}

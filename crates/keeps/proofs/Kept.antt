@@ -18,8 +18,8 @@ use Rattle.table.specs.Euler.{SameEuler}
 use Rattle.fan.proofs.Relabel.{length-relabel}
 use Rattle.edit_inner.specs.Collapse.{winged, collapseVertices, collapseOpposites, collapseMarks, collapseCorners, collapseEdge}
 use Rattle.edit_inner.specs.Flip.{flipVertices, flipOpposites, flipCorners, flipEdge}
-use Rattle.edit_splits.specs.SplitEdge.{splitPoints, splitCorners, innerVertices, innerOpposites, splitInnerEdge, boundaryVertices, boundaryOpposites, splitBoundaryEdge, splitEdge}
-use Rattle.edit_splits.specs.SplitFace.{faceVertices, faceOpposites, faceCorners, splitFace}
+use Rattle.split_parts.specs.SplitEdge.{splitPoints, splitCorners, innerVertices, innerOpposites, splitInnerEdge, boundaryVertices, boundaryOpposites, splitBoundaryEdge, splitEdge}
+use Rattle.split_parts.specs.SplitFace.{faceVertices, faceOpposites, faceCorners, splitFace}
 use Rattle.edge_collapse.specs.EdgeCollapse.{affectsBoundary, unsafe}
 use Rattle.keeps.specs.Keeps.{Kept}
 use Rattle.keeps.proofs.FlipTable.{flip-wf}

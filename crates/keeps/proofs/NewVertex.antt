@@ -14,7 +14,7 @@ use Rattle.table.specs.Slots.{markAt, pointAt, withPoint}
 use Rattle.table.specs.Table.{Table, LiveVertex, Shaped}
 use Rattle.table.specs.Rules.{WellFormed}
 use Rattle.fan.proofs.Redirect.{at, at-same, at-other, Seen, set-seen}
-use Rattle.edit_splits.specs.SplitEdge.{splitPoints}
+use Rattle.split_parts.specs.SplitEdge.{splitPoints}
 use Rattle.keeps.proofs.Writes.{marks-grown, placed-here, placed-other, length-placed}
 
 abbrev pub LiveV1 : Table → ℕ → Type 0

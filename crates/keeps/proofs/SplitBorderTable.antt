@@ -22,7 +22,7 @@ use Rattle.ring.specs.Ring.{ring}
 use Rattle.ring.proofs.Exact.{ring-sound}
 use Rattle.keeps.proofs.Without.{without-to, without-from}
 use Rattle.edit_plans.specs.Plans.{triangle}
-use Rattle.edit_splits.specs.SplitEdge.{without, splitPoints, splitCorners, boundaryVertices, boundaryOpposites, splitBoundaryEdge}
+use Rattle.split_parts.specs.SplitEdge.{without, splitPoints, splitCorners, boundaryVertices, boundaryOpposites, splitBoundaryEdge}
 use Rattle.vertex.specs.declared.Point.{Point}
 use Rattle.vertex.specs.Point.{finitePoint}
 use Rattle.table.specs.Table.{Table, table, Live, LiveVertex, opposite, vertex, corner, Shaped}

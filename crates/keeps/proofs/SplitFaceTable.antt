@@ -25,7 +25,7 @@ use Rattle.keeps.proofs.SplitInner.{in-six}
 use Rattle.keeps.proofs.NewFaces.{grow, fresh, shrink, corner-marks, face-marks, next6, next7, next9, next10}
 use Rattle.keeps.proofs.NewVertex.{LiveV1, old-vertex, new-one, was-vertex, vertex-marks, placed-finite}
 use Rattle.edit_plans.specs.Plans.{triangle}
-use Rattle.edit_splits.specs.SplitFace.{faceVertices, faceOpposites, faceCorners, splitFace}
+use Rattle.split_parts.specs.SplitFace.{faceVertices, faceOpposites, faceCorners, splitFace}
 
 module _ (t : Table) (Z : Shaped t) (W : WellFormed t) (room : t .corners + 6 ≤ length (t .cornerMark)) (vroom : t .vertices + 1 ≤ length (t .vertexMark))
     (c0 c1 c2 : ℕ) (f0 : Face3 c0 c1 c2) (l0 : Live t c0) (l1 : Live t c1) (l2 : Live t c2)

@@ -20,7 +20,7 @@ use Rattle.ring.specs.Ring.{ring}
 use Rattle.ring.proofs.Exact.{ring-sound}
 use Rattle.keeps.proofs.Without.{without-to, without-from}
 use Rattle.edit_plans.specs.Plans.{around}
-use Rattle.edit_splits.specs.SplitEdge.{without, splitPoints, splitCorners, innerVertices, innerOpposites, splitInnerEdge}
+use Rattle.split_parts.specs.SplitEdge.{without, splitPoints, splitCorners, innerVertices, innerOpposites, splitInnerEdge}
 use Rattle.vertex.specs.declared.Point.{Point}
 use Rattle.vertex.specs.Point.{finitePoint}
 use Rattle.table.specs.Table.{Table, table, Live, LiveVertex, opposite, vertex, corner, Shaped}

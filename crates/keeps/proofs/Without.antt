@@ -6,7 +6,7 @@ use mathlib.Core.List.{List, [], _∷_, List·Memᴰ, List·Memᴰ·head, List·
 use Prim.Native.Nat.{ℕ}
 use borrow.Author.Tests.{eqb-true, eqb-false}
 use lib.Dec.{eqb}
-use Rattle.edit_splits.specs.SplitEdge.{without}
+use Rattle.split_parts.specs.SplitEdge.{without}
 
 pub without-to : (a : ℕ) (cs : List ℕ) (d : ℕ) → List·Memᴰ d cs → d ≢ a → List·Memᴰ d (without a cs)
 without-to a (c ∷ cs) d (List·Memᴰ·head e) n = go (eqb c a) refl

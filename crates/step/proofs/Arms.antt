@@ -15,8 +15,8 @@ use Rattle.edit_plans.specs.declared.Around.{Around}
 use Rattle.edit_plans.specs.Plans.{around, CornersThere, VerticesThere, EdgeThere}
 use Rattle.edit_inner.specs.Collapse.{collapseEdge}
 use Rattle.edit_inner.specs.Flip.{flipEdge}
-use Rattle.edit_splits.specs.SplitEdge.{splitEdge}
-use Rattle.edit_splits.specs.SplitFace.{splitFace}
+use Rattle.split_parts.specs.SplitEdge.{splitEdge}
+use Rattle.split_parts.specs.SplitFace.{splitFace}
 use Rattle.table.specs.Table.{Table, opposite, Live}
 use Rattle.edge_collapse.specs.EdgeCollapse.{affectsBoundary}
 use Rattle.edge_collapse.proofs.Paper.{inner}

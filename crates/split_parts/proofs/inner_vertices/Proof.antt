@@ -1,8 +1,8 @@
-use Rattle.edit_splits.proofs.Without.{inner-kept}
+use Rattle.split_parts.proofs.Without.{inner-kept}
 use denote.Ref.{now}
 use borrow.Author.Needs.{needs}
-use Rattle.edit_splits.proofs.inner_vertices.Statement.{statement}
-use Rattle.edit_splits.proofs.inner_vertices.Tie as tie
+use Rattle.split_parts.proofs.inner_vertices.Statement.{statement}
+use Rattle.split_parts.proofs.inner_vertices.Tie as tie
 
 put-six-requires : tie.Need-put-six-requires
 put-six-requires c κs = search needs

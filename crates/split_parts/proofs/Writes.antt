@@ -10,8 +10,8 @@ use Rattle.table.specs.Slots.{oppositeAt, pointAt, paired, three, withPoint}
 use Rattle.edit_plans.specs.declared.Around.{Around}
 use Rattle.edit_plans.specs.declared.Triangle.{Triangle}
 use Rattle.edit_plans.specs.Plans.{six}
-use Rattle.edit_splits.specs.SplitEdge.{splitPoints, splitCorners, innerOpposites, boundaryOpposites}
-use Rattle.edit_splits.specs.SplitFace.{faceVertices, faceOpposites, faceCorners}
+use Rattle.split_parts.specs.SplitEdge.{splitPoints, splitCorners, innerOpposites, boundaryOpposites}
+use Rattle.split_parts.specs.SplitFace.{faceVertices, faceOpposites, faceCorners}
 
 -- ---- split_edge
 

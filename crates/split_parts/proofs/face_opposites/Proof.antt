@@ -1,8 +1,8 @@
-use Rattle.edit_splits.proofs.Writes.{face-opposites-made}
+use Rattle.split_parts.proofs.Writes.{face-opposites-made}
 use denote.Ref.{now}
 use borrow.Author.Needs.{needs}
-use Rattle.edit_splits.proofs.face_opposites.Statement.{statement}
-use Rattle.edit_splits.proofs.face_opposites.Tie as tie
+use Rattle.split_parts.proofs.face_opposites.Statement.{statement}
+use Rattle.split_parts.proofs.face_opposites.Tie as tie
 
 put-six-requires : tie.Need-put-six-requires
 put-six-requires c κs = search needs

@@ -1,8 +1,8 @@
-use Rattle.edit_splits.proofs.Writes.{split-points-made}
+use Rattle.split_parts.proofs.Writes.{split-points-made}
 use denote.Ref.{now}
 use borrow.Author.Needs.{needs}
-use Rattle.edit_splits.proofs.split_points.Statement.{statement}
-use Rattle.edit_splits.proofs.split_points.Tie as tie
+use Rattle.split_parts.proofs.split_points.Statement.{statement}
+use Rattle.split_parts.proofs.split_points.Tie as tie
 
 position-requires : tie.Need-position-requires
 position-requires c κs = search needs

@@ -1,8 +1,8 @@
-use Rattle.edit_splits.proofs.Writes.{face-corners-made}
+use Rattle.split_parts.proofs.Writes.{face-corners-made}
 use denote.Ref.{now}
 use borrow.Author.Needs.{needs}
-use Rattle.edit_splits.proofs.face_corners.Statement.{statement}
-use Rattle.edit_splits.proofs.face_corners.Tie as tie
+use Rattle.split_parts.proofs.face_corners.Statement.{statement}
+use Rattle.split_parts.proofs.face_corners.Tie as tie
 
 set-corner-requires : tie.Need-set-corner-requires
 set-corner-requires c κs = search needs

@@ -11,7 +11,7 @@ use Rattle.ring.specs.Ring.{ring}
 use Rattle.edit_plans.specs.declared.Around.{Around}
 use Rattle.edit_plans.specs.declared.Triangle.{Triangle}
 use Rattle.edit_plans.specs.Plans.{six}
-use Rattle.edit_splits.specs.SplitEdge.{without, boundaryVertices, innerVertices}
+use Rattle.split_parts.specs.SplitEdge.{without, boundaryVertices, innerVertices}
 
 -- what stood at a before plays no part once a is written again
 rewritten : (cs : List ℕ) (u a x y : ℕ) (l : List ℕ) → set (relabel cs u (set l a x)) a y ≡ set (relabel cs u l) a y

@@ -1,8 +1,8 @@
-use Rattle.edit_splits.proofs.Without.{boundary-kept}
+use Rattle.split_parts.proofs.Without.{boundary-kept}
 use denote.Ref.{now}
 use borrow.Author.Needs.{needs}
-use Rattle.edit_splits.proofs.boundary_vertices.Statement.{statement}
-use Rattle.edit_splits.proofs.boundary_vertices.Tie as tie
+use Rattle.split_parts.proofs.boundary_vertices.Statement.{statement}
+use Rattle.split_parts.proofs.boundary_vertices.Tie as tie
 
 put-three-requires : tie.Need-put-three-requires
 put-three-requires c κs = search needs

@@ -1,8 +1,8 @@
-use Rattle.edit_splits.proofs.Writes.{boundary-opposites-made}
+use Rattle.split_parts.proofs.Writes.{boundary-opposites-made}
 use denote.Ref.{now}
 use borrow.Author.Needs.{needs}
-use Rattle.edit_splits.proofs.boundary_opposites.Statement.{statement}
-use Rattle.edit_splits.proofs.boundary_opposites.Tie as tie
+use Rattle.split_parts.proofs.boundary_opposites.Statement.{statement}
+use Rattle.split_parts.proofs.boundary_opposites.Tie as tie
 
 put-three-requires : tie.Need-put-three-requires
 put-three-requires c κs = search needs

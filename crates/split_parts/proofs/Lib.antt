@@ -1,0 +1,3 @@
+-- Laws of what the splits write.
+pub mod Writes
+pub mod Without
