@@ -333,7 +333,7 @@ fn by_one_walk(
     n
 }
 
-// The list of the walk that begins at start: by one walk where that will do, as for nearly all; else by two. Each way is called here alone,
+// The list of the walk that begins at start: by one walk where that will do, as for most; else by two. Each way is called here alone,
 // so that the compiler makes one function of all.
 pub fn ring_from(
     kind: Kind,
