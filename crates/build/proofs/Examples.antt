@@ -108,6 +108,11 @@ pub refused-6 : build (blank 2 3) threePoints (0 ∷ 1 ∷ 2 ∷ []) ≡ refused
 unfolding build finish isolated laid ring vertices corners left give faces face grow findEdge edgeAt next previous side shapedBy nought one two ofBits
 refused-6 = refl
 
+-- "the face is skipped and counted, not refused", before 6: there is no room for it
+pub skipped-when-full : build (blank 3 3) threePoints (0 ∷ 1 ∷ 2 ∷ 0 ∷ 1 ∷ 2 ∷ []) ≡ built 0 1 meshA
+unfolding build finish isolated laid ring vertices corners left give faces face grow findEdge edgeAt next previous side shapedBy nought one two ofBits
+skipped-when-full = refl
+
 -- "If the duplicates don't fit, the build is refused (5)"
 pub refused-duplicates : build (blank 6 5)
     (one ∷ two ∷ three ∷ one ∷ nought ∷ nought ∷ two ∷ nought ∷ nought ∷ three ∷ nought ∷ nought ∷ one ∷ one ∷ nought ∷ [])
