@@ -9,7 +9,7 @@ use Rattle.table.specs.Table.{Table, shapedBy, live, Shaped}
 use Rattle.table.specs.Table.{withCornerVertex, withCornerOpposite, withCornerMark, withVertexCorner, withVertexPoint, withCounts}
 use Rattle.table.specs.Rules.{WellFormed}
 use Rattle.table.specs.Slots.{nought}
-use Rattle.table.specs.Meshes.{one, two, three, meshA, meshB, meshT}
+use Rattle.table.specs.Meshes.{float1, float2, float3, meshA, meshB, meshT}
 use Rattle.kinds.specs.Kinds.{testAt, ruleOf, span, slotOf}
 use Rattle.rules.specs.Tests.{swing, near, countsTest, markTest, faceTest, vertexTest, differTest, backTest, matesTest, oppositeTest}
 use Rattle.rules.specs.Tests.{cornerTest, fanTest, pointTest, holds}
@@ -59,7 +59,7 @@ pub record Verdicts : Type 0 where
   pub r6 : verdictOf brokenR6 ≡ broken 6 3
 
 pub verdicts : Verdicts
-unfolding verdictOf ruled clean firstOf slotOf span ruleOf testAt holds pointTest fanTest cornerTest oppositeTest matesTest backTest differTest vertexTest faceTest markTest countsTest near swing firstBad firstFrom three two one nought live shapedBy previous next ofBits
+unfolding verdictOf ruled clean firstOf slotOf span ruleOf testAt holds pointTest fanTest cornerTest oppositeTest matesTest backTest differTest vertexTest faceTest markTest countsTest near swing firstBad firstFrom float3 float2 float1 nought live shapedBy previous next ofBits
 verdicts = record { a = refl; b = refl; t = refl; r1 = refl; r2 = refl; r3 = refl; r4 = refl; r5 = refl; fan = refl; r6 = refl }
 
 answer : {v w : Verdict} → v ≡ w → v .answer ≡ w .answer

@@ -5,7 +5,7 @@ use lib.Ieee.{Float}
 use Rattle.corner.specs.Corner.{absent, next, previous}
 use Rattle.table.specs.Slots.{nought}
 use Rattle.table.specs.Table.{table}
-use Rattle.table.specs.Meshes.{meshB, meshT, two, three}
+use Rattle.table.specs.Meshes.{meshB, meshT, float2, float3}
 use Rattle.ring.specs.Ring.{side, ring}
 use Rattle.edit_plans.specs.Plans.{around}
 use Rattle.edit_inner.specs.Collapse.{winged, either, collapseVertices, collapseOpposites, collapseMarks, collapseCorners, collapseEdge}
@@ -20,7 +20,7 @@ t-collapse : (x y z : Float) → collapseEdge meshT 0 (record { x = x; y = y; z 
     (1 ∷ 1 ∷ 1 ∷ 0 ∷ 0 ∷ 0 ∷ 0 ∷ 0 ∷ 0 ∷ 1 ∷ 1 ∷ 1 ∷ [])
     (6 ∷ 8 ∷ 11 ∷ 5 ∷ [])
     (0 ∷ 0 ∷ 1 ∷ 0 ∷ [])
-    (nought ∷ nought ∷ nought ∷ x ∷ y ∷ z ∷ two ∷ nought ∷ nought ∷ three ∷ nought ∷ nought ∷ [])
+    (nought ∷ nought ∷ nought ∷ x ∷ y ∷ z ∷ float2 ∷ nought ∷ nought ∷ float3 ∷ nought ∷ nought ∷ [])
     4
     12
 unfolding collapseEdge around collapseVertices collapseOpposites collapseMarks collapseCorners winged either ring side next previous

@@ -6,7 +6,7 @@ use Rattle.corner.specs.Corner.{absent, next, previous}
 use Rattle.vertex.specs.declared.Point.{Point}
 use Rattle.table.specs.Slots.{nought}
 use Rattle.table.specs.Table.{Table, table, extended}
-use Rattle.table.specs.Meshes.{meshA, meshB, one, two, three}
+use Rattle.table.specs.Meshes.{meshA, meshB, float1, float2, float3}
 use Rattle.ring.specs.Ring.{side, ring}
 use Rattle.edit_plans.specs.Plans.{triangle, around}
 use Rattle.split_parts.specs.SplitEdge.{splitPoints, splitCorners, innerVertices, innerOpposites, splitInnerEdge, boundaryVertices, boundaryOpposites, splitBoundaryEdge, splitEdge}
@@ -21,7 +21,7 @@ pillow =
     (0 ∷ 0 ∷ 0 ∷ 0 ∷ 0 ∷ 0 ∷ [])
     (3 ∷ 5 ∷ 4 ∷ [])
     (0 ∷ 0 ∷ 0 ∷ [])
-    (nought ∷ nought ∷ nought ∷ one ∷ nought ∷ nought ∷ two ∷ nought ∷ nought ∷ [])
+    (nought ∷ nought ∷ nought ∷ float1 ∷ nought ∷ nought ∷ float2 ∷ nought ∷ nought ∷ [])
     3
     6
 
@@ -38,7 +38,7 @@ module _ (x y z : Float) where
       (0 ∷ 0 ∷ 0 ∷ 0 ∷ 0 ∷ 0 ∷ [])
       (0 ∷ 1 ∷ 2 ∷ 4 ∷ [])
       (0 ∷ 0 ∷ 0 ∷ 0 ∷ [])
-      (nought ∷ nought ∷ nought ∷ x ∷ y ∷ z ∷ two ∷ nought ∷ nought ∷ one ∷ nought ∷ nought ∷ [])
+      (nought ∷ nought ∷ nought ∷ x ∷ y ∷ z ∷ float2 ∷ nought ∷ nought ∷ float1 ∷ nought ∷ nought ∷ [])
       4
       6
   unfolding splitEdge splitBoundaryEdge triangle boundaryVertices boundaryOpposites splitCorners splitPoints ring side next previous
@@ -52,7 +52,7 @@ module _ (x y z : Float) where
       (0 ∷ 0 ∷ 0 ∷ 0 ∷ 0 ∷ 0 ∷ 0 ∷ 0 ∷ 0 ∷ 0 ∷ 0 ∷ 0 ∷ [])
       (3 ∷ 1 ∷ 2 ∷ 5 ∷ 7 ∷ [])
       (0 ∷ 0 ∷ 0 ∷ 0 ∷ 0 ∷ [])
-      (nought ∷ nought ∷ nought ∷ one ∷ nought ∷ nought ∷ x ∷ y ∷ z ∷ three ∷ nought ∷ nought ∷ two ∷ nought ∷ nought ∷ [])
+      (nought ∷ nought ∷ nought ∷ float1 ∷ nought ∷ nought ∷ x ∷ y ∷ z ∷ float3 ∷ nought ∷ nought ∷ float2 ∷ nought ∷ nought ∷ [])
       5
       12
   unfolding splitEdge splitInnerEdge around innerVertices innerOpposites splitCorners splitPoints ring side next previous
@@ -67,7 +67,7 @@ module _ (x y z : Float) where
       (0 ∷ 0 ∷ 0 ∷ 0 ∷ 0 ∷ 0 ∷ 0 ∷ 0 ∷ 0 ∷ 0 ∷ 0 ∷ 0 ∷ [])
       (3 ∷ 1 ∷ 4 ∷ 7 ∷ [])
       (0 ∷ 0 ∷ 0 ∷ 0 ∷ [])
-      (nought ∷ nought ∷ nought ∷ x ∷ y ∷ z ∷ two ∷ nought ∷ nought ∷ one ∷ nought ∷ nought ∷ [])
+      (nought ∷ nought ∷ nought ∷ x ∷ y ∷ z ∷ float2 ∷ nought ∷ nought ∷ float1 ∷ nought ∷ nought ∷ [])
       4
       12
   unfolding splitEdge splitInnerEdge around innerVertices innerOpposites splitCorners splitPoints ring side next previous
@@ -81,7 +81,7 @@ module _ (x y z : Float) where
       (0 ∷ 0 ∷ 0 ∷ 0 ∷ 0 ∷ 0 ∷ 0 ∷ 0 ∷ 0 ∷ [])
       (0 ∷ 1 ∷ 4 ∷ 2 ∷ [])
       (0 ∷ 0 ∷ 0 ∷ 0 ∷ [])
-      (nought ∷ nought ∷ nought ∷ one ∷ nought ∷ nought ∷ two ∷ nought ∷ nought ∷ x ∷ y ∷ z ∷ [])
+      (nought ∷ nought ∷ nought ∷ float1 ∷ nought ∷ nought ∷ float2 ∷ nought ∷ nought ∷ x ∷ y ∷ z ∷ [])
       4
       9
   unfolding splitFace triangle faceVertices faceOpposites faceCorners next

@@ -8,7 +8,7 @@ use Rattle.vertex.specs.declared.Point.{Point}
 use Rattle.vertex.specs.Point.{pointOfBits}
 use Rattle.table.specs.Slots.{nought}
 use Rattle.table.specs.Table.{extended, shapedBy, live}
-use Rattle.table.specs.Meshes.{meshA, meshB, meshT, one, two, three}
+use Rattle.table.specs.Meshes.{meshA, meshB, meshT, float1, float2, float3}
 use Rattle.ring.specs.Ring.{side, ring}
 use Rattle.edit_plans.specs.Plans.{around}
 use Rattle.edit_inner.specs.Collapse.{winged, either, collapseVertices, collapseOpposites, collapseMarks, collapseCorners, collapseEdge}
@@ -67,14 +67,14 @@ abbrev b-script : List ℕ
 b-script = 2 ∷ 0 ∷ 0 ∷ 0 ∷ 0 ∷ 1 ∷ 1 ∷ 0 ∷ 0 ∷ 0 ∷ []
 
 pub b-run : run meshB b-script (99 ∷ 99 ∷ 99 ∷ []) ≡ whole 0 0 0 (progress (11 ∷ 11 ∷ 99 ∷ []) meshB)
-unfolding run fits commands commandAt decoded pointOfBits step effect answer collapseAnswer flipAnswer targeted first affectsBoundary meetsBorder side verdictOf ruled clean firstOf slotOf span ruleOf testAt holds pointTest fanTest cornerTest oppositeTest matesTest backTest differTest vertexTest faceTest markTest countsTest near swing firstBad firstFrom three two one nought live shapedBy previous next ofBits
+unfolding run fits commands commandAt decoded pointOfBits step effect answer collapseAnswer flipAnswer targeted first affectsBoundary meetsBorder side verdictOf ruled clean firstOf slotOf span ruleOf testAt holds pointTest fanTest cornerTest oppositeTest matesTest backTest differTest vertexTest faceTest markTest countsTest near swing firstBad firstFrom float3 float2 float1 nought live shapedBy previous next ofBits
 b-run = refl
 
 abbrev t-script : List ℕ
 t-script = 1 ∷ 0 ∷ 0 ∷ 0 ∷ 0 ∷ 1 ∷ 3 ∷ 0 ∷ 0 ∷ 0 ∷ []
 
 pub t-run : run meshT t-script (99 ∷ 99 ∷ 99 ∷ []) .progress .answers ≡ 0 ∷ 12 ∷ 99 ∷ []
-unfolding run fits commands commandAt decoded pointOfBits step effect answer collapseAnswer targeted first affectsBoundary meetsBorder unsafe neighbours timesIn commonIn collapseEdge around collapseVertices collapseOpposites collapseMarks collapseCorners winged either ring side verdictOf ruled clean firstOf slotOf span ruleOf testAt holds pointTest fanTest cornerTest oppositeTest matesTest backTest differTest vertexTest faceTest markTest countsTest near swing firstBad firstFrom three two one nought live shapedBy previous next ofBits
+unfolding run fits commands commandAt decoded pointOfBits step effect answer collapseAnswer targeted first affectsBoundary meetsBorder unsafe neighbours timesIn commonIn collapseEdge around collapseVertices collapseOpposites collapseMarks collapseCorners winged either ring side verdictOf ruled clean firstOf slotOf span ruleOf testAt holds pointTest fanTest cornerTest oppositeTest matesTest backTest differTest vertexTest faceTest markTest countsTest near swing firstBad firstFrom float3 float2 float1 nought live shapedBy previous next ofBits
 t-run = refl
 
 -- "A with room for 3 vertices, split face: 5. With 4 vertices and 8 corners: 6; with 9: done."

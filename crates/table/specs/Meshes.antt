@@ -5,14 +5,14 @@ use Rattle.corner.specs.Corner.{absent}
 use Rattle.table.specs.Slots.{nought}
 use Rattle.table.specs.Table.{Table, table}
 
-unfoldable pub one : Float
-one = ofBits binary32 0x3f80_0000
+unfoldable pub float1 : Float
+float1 = ofBits binary32 0x3f80_0000
 
-unfoldable pub two : Float
-two = ofBits binary32 0x4000_0000
+unfoldable pub float2 : Float
+float2 = ofBits binary32 0x4000_0000
 
-unfoldable pub three : Float
-three = ofBits binary32 0x4040_0000
+unfoldable pub float3 : Float
+float3 = ofBits binary32 0x4040_0000
 
 -- "A: points 0 to 2, face 0 1 2. Corners 0 1 2, no pairs."
 abbrev pub meshA : Table
@@ -23,7 +23,7 @@ meshA =
     (0 ∷ 0 ∷ 0 ∷ [])
     (0 ∷ 1 ∷ 2 ∷ [])
     (0 ∷ 0 ∷ 0 ∷ [])
-    (nought ∷ nought ∷ nought ∷ one ∷ nought ∷ nought ∷ two ∷ nought ∷ nought ∷ [])
+    (nought ∷ nought ∷ nought ∷ float1 ∷ nought ∷ nought ∷ float2 ∷ nought ∷ nought ∷ [])
     3
     3
 
@@ -36,7 +36,7 @@ meshB =
     (0 ∷ 0 ∷ 0 ∷ 0 ∷ 0 ∷ 0 ∷ [])
     (3 ∷ 1 ∷ 4 ∷ 5 ∷ [])
     (0 ∷ 0 ∷ 0 ∷ 0 ∷ [])
-    (nought ∷ nought ∷ nought ∷ one ∷ nought ∷ nought ∷ two ∷ nought ∷ nought ∷ three ∷ nought ∷ nought ∷ [])
+    (nought ∷ nought ∷ nought ∷ float1 ∷ nought ∷ nought ∷ float2 ∷ nought ∷ nought ∷ float3 ∷ nought ∷ nought ∷ [])
     4
     6
 
@@ -49,6 +49,6 @@ meshT =
     (0 ∷ 0 ∷ 0 ∷ 0 ∷ 0 ∷ 0 ∷ 0 ∷ 0 ∷ 0 ∷ 0 ∷ 0 ∷ 0 ∷ [])
     (6 ∷ 9 ∷ 11 ∷ 10 ∷ [])
     (0 ∷ 0 ∷ 0 ∷ 0 ∷ [])
-    (nought ∷ nought ∷ nought ∷ one ∷ nought ∷ nought ∷ two ∷ nought ∷ nought ∷ three ∷ nought ∷ nought ∷ [])
+    (nought ∷ nought ∷ nought ∷ float1 ∷ nought ∷ nought ∷ float2 ∷ nought ∷ nought ∷ float3 ∷ nought ∷ nought ∷ [])
     4
     12
