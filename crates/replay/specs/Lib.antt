@@ -1,2 +1,2 @@
--- What a record of the stored list asks of the library, and what it leaves.
-pub mod Change
+-- What a record leaves of parts at their largest.
+pub mod Replay

@@ -1,2 +1,3 @@
--- The laws behind the kinds.
+-- The laws behind the kinds and the records.
 pub mod Asked
+pub mod Looks

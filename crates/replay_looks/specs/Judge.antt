@@ -16,17 +16,9 @@ twoAre w k a b = wordIs w k a && wordIs w (k + 1) b
 unfoldable pub threeAre : List ℕ → ℕ → ℕ → ℕ → ℕ → Bool
 threeAre w k a b c = twoAre w k a b && wordIs w (k + 2) c
 
--- 4 build: "answer, skipped, vertices, corners"
-unfoldable pub builtAs : List ℕ → (answer skipped vertices corners : ℕ) → Bool
-builtAs w a s v c = twoAre w 0 a s && twoAre w 2 v c
-
 -- 5 check: "answer, rule, slot"
 unfoldable pub checkedAs : List ℕ → Verdict → Bool
 checkedAs w v = threeAre w 0 (v .answer) (v .rule) (v .slot)
-
--- 6 run: "answer, rule, slot, vertices, corners"
-unfoldable pub ranAs : List ℕ → (answer rule slot vertices corners : ℕ) → Bool
-ranAs w a r s v c = threeAre w 0 a r s && twoAre w 3 v c
 
 -- 7 ring: after the kind and the vertex "answer, visited, written"
 unfoldable pub ringedAs : List ℕ → (answer visited written : ℕ) → Bool

@@ -1,15 +1,30 @@
 // The records of the stored list that only look at the table: the call that a record asks for is made, and what comes out is held to what
 // it lists.
 ghost use mathlib.Core.Path.{_≡_};
-ghost use Prim.Native.Nat.{_≤_};
+ghost use lib.ListN.{length};
 ghost use Rattle.table.specs.Table.{table};
 ghost use Rattle.lists.specs.Outcome.{outcome};
 ghost use Rattle.traversal.specs.Ring.{ringOf};
-ghost use Rattle.replay_looks.specs.Judge.{wordIs, twoAre, threeAre, builtAs, checkedAs, ranAs, ringedAs, bitOf, movedAs};
-ghost use Rattle.replay_looks.specs.Look.{ringKindOf, moveOf, nextPart, wholePart, partRight, pointsRight, cornersRight, verticesRight};
+ghost use Rattle.records.specs.Same.{oneUnless};
+ghost use Rattle.replay_looks.specs.Judge.{wordIs, twoAre, threeAre, checkedAs, ringedAs, bitOf, movedAs};
+ghost use Rattle.replay_looks.specs.Look.{
+  ringKindOf,
+  moveOf,
+  nextPart,
+  wholePart,
+  partRight,
+  pointsRight,
+  cornersRight,
+  verticesRight,
+  checkRight,
+  ringAs,
+  ringRight,
+  moveRight,
+  slotsRight,
+  lookRight,
+};
 use corner::Corner;
 use flag::both;
-use lists::Ring;
 use records::first;
 use records::hold_numbers;
 use records::holds;
@@ -18,6 +33,7 @@ use records::past;
 use table::Counts;
 use table::at;
 use table::fill;
+use lists::Ring;
 use vertex::Vertex;
 use walker::Moved;
 
@@ -29,44 +45,24 @@ fn word_is(w: &[u32], k: usize, v: usize) -> bool
     at(w, k, 0) as usize == v
 }
 
-fn two_are(w: &[u32], k: u32, a: usize, b: usize) -> bool
+pub fn two_are(w: &[u32], k: u32, a: usize, b: usize) -> bool
     ensures { λ r. ⌜ r ≡ twoAre (now (w .entry)) k a b ⌝ }
 {
     let i = k as usize;
     both(word_is(w, i, a), word_is(w, i + 1, b))
 }
 
-fn three_are(w: &[u32], k: u32, a: usize, b: usize, c: usize) -> bool
+pub fn three_are(w: &[u32], k: u32, a: usize, b: usize, c: usize) -> bool
     ensures { λ r. ⌜ r ≡ threeAre (now (w .entry)) k a b c ⌝ }
 {
     let i = k as usize;
     both(two_are(w, k, a, b), word_is(w, i + 2, c))
 }
 
-pub fn built_as(b: builder::Built, w: &[u32]) -> bool
-    ensures { λ r. ⌜ r ≡ builtAs (now (w .entry)) (b .answer) (b .skipped) (b .counts .vertices) (b .counts .corners) ⌝ }
-{
-    let n = b.counts;
-    both(
-        two_are(w, 0, b.answer as usize, b.skipped),
-        two_are(w, 2, n.vertices as usize, n.corners as usize),
-    )
-}
-
 fn checked_as(v: checker::Verdict, w: &[u32]) -> bool
     ensures { λ r. ⌜ r ≡ checkedAs (now (w .entry)) v ⌝ }
 {
     three_are(w, 0, v.answer as usize, v.rule as usize, v.slot as usize)
-}
-
-pub fn ran_as(b: script::Ran, w: &[u32]) -> bool
-    ensures { λ r. ⌜ r ≡ ranAs (now (w .entry)) (b .answer) (b .rule) (b .slot) (b .counts .vertices) (b .counts .corners) ⌝ }
-{
-    let n = b.counts;
-    both(
-        three_are(w, 0, b.answer as usize, b.rule as usize, b.slot as usize),
-        two_are(w, 3, n.vertices as usize, n.corners as usize),
-    )
 }
 
 fn ringed_as(b: Ring, w: &[u32]) -> bool
@@ -107,7 +103,9 @@ fn replay_check(
     counts: Counts,
     w: &[u32],
 ) -> u32
-    ensures { λ r. ⌜ r ≤ 1 ⌝ }
+    ensures { λ r. ⌜ r ≡ oneUnless (checkRight
+        (table (now (cv .entry)) (now (co .entry)) (now (cm .entry)) (now (vc .entry)) (now (vm .entry)) (now (vp .entry))
+        (counts .vertices) (counts .corners)) (now (w .entry))) ⌝ }
 {
     let v = checker::check(cv, co, cm, vc, vm, vp, counts);
     one_unless(both(checked_as(v, w), w.len() == 3))
@@ -146,6 +144,14 @@ fn ring_of(
     traversal::ring_bounding_edges(cv, co, cm, vc, vm, vp, counts, vertex, list)
 }
 
+fn ring_as(b: Ring, w: &[u32], list: &[u32]) -> bool
+    ensures { λ r. ⌜ r ≡ ringAs (now (w .entry)) (outcome b (now (list .entry))) ⌝ }
+{
+    let same = holds(list, past(w, 7), at(w, 6, 0));
+    let sized = both(at(w, 0, 0) < 5, word_is(w, 5, list.len()));
+    both(both(ringed_as(b, w), same), sized)
+}
+
 // The list has the listed length.
 fn replay_ring(
     cv: &[u32],
@@ -158,16 +164,24 @@ fn replay_ring(
     w: &[u32],
     list: &mut [u32],
 ) -> u32
-    ensures { λ r. ⌜ r ≤ 1 ⌝ }
+    ensures { λ r. ⌜ r ≡ oneUnless (ringRight
+        (table (now (cv .entry)) (now (co .entry)) (now (cm .entry)) (now (vc .entry)) (now (vm .entry)) (now (vp .entry))
+        (counts .vertices) (counts .corners)) (length (now (list .entry))) (now (w .entry))) ⌝ }
 {
-    let kind = at(w, 0, 0);
-    let vertex = Vertex(at(w, 1, 0));
-    let rest = at(w, 6, 0);
-    fill(list, rest);
-    let b = ring_of(kind, cv, co, cm, vc, vm, vp, counts, vertex, list);
-    let same = holds(list, past(w, 7), rest);
-    let sized = both(kind < 5, word_is(w, 5, list.len()));
-    one_unless(both(both(ringed_as(b, w), same), sized))
+    fill(list, at(w, 6, 0));
+    let b = ring_of(
+        at(w, 0, 0),
+        cv,
+        co,
+        cm,
+        vc,
+        vm,
+        vp,
+        counts,
+        Vertex(at(w, 1, 0)),
+        list,
+    );
+    one_unless(ring_as(b, w, list))
 }
 
 // ---- 8 move
@@ -212,7 +226,9 @@ fn replay_move<'a>(
     counts: Counts,
     w: &[u32],
 ) -> u32
-    ensures { λ r. ⌜ r ≤ 1 ⌝ }
+    ensures { λ r. ⌜ r ≡ oneUnless (moveRight
+        (table (now (cv .entry)) (now (co .entry)) (now (cm .entry)) (now (vc .entry)) (now (vm .entry)) (now (vp .entry))
+        (counts .vertices) (counts .corners)) (now (w .entry))) ⌝ }
 {
     let kind = at(w, 0, 0);
     let corner = Corner(at(w, 1, 0));
@@ -294,7 +310,8 @@ fn replay_slots(
     vp: &[f32],
     w: &[u32],
 ) -> u32
-    ensures { λ r. ⌜ r ≤ 1 ⌝ }
+    ensures { λ r. ⌜ r ≡ oneUnless (slotsRight (now (cv .entry)) (now (co .entry)) (now (cm .entry)) (now (vc .entry))
+        (now (vm .entry)) (now (vp .entry)) (now (w .entry))) ⌝ }
 {
     let rest = next_part(next_part(next_part(w)));
     let corners = corners_right(cv, co, cm, w);
@@ -315,7 +332,9 @@ pub fn look<'a>(
     w: &[u32],
     list: &mut [u32],
 ) -> u32
-    ensures { λ r. ⌜ r ≤ 1 ⌝ }
+    ensures { λ r. ⌜ r ≡ oneUnless (lookRight op
+        (table (now (cv .entry)) (now (co .entry)) (now (cm .entry)) (now (vc .entry)) (now (vm .entry)) (now (vp .entry))
+        (counts .vertices) (counts .corners)) (length (now (list .entry))) (now (w .entry))) ⌝ }
 {
     if op == 5 {
         return replay_check(cv, co, cm, vc, vm, vp, counts, w);

@@ -11,7 +11,7 @@ use records::first;
 use records::least;
 use records::one_unless;
 use records::past;
-use replay::Rooms;
+use replay_changes::Rooms;
 use table::Counts;
 use table::at;
 
@@ -105,7 +105,7 @@ fn play(
         let op = at(words, from, 0);
         let n = at(words, from + 1, 0) as usize;
         let w = first(past(words, from + 2), n);
-        rooms = replay::rooms_after(op, w, rooms);
+        rooms = replay_changes::rooms_after(op, w, rooms);
         let left = replay::replay(op, rooms, cv, co, cm, vc, vm, vp, counts, w, numbers, list);
         counts = left.counts;
         bad += told(left.wrong, w.len() == n, k, op);

@@ -1,4 +1,4 @@
-use Rattle.replay.specs.Change.{listCount}
+use Rattle.replay.specs.Replay.{listCount}
 use borrow.Author.Tests.{eq-eqb, ne-eqb}
 use borrow.Author.Needs.{needs}
 use Rattle.replay.proofs.list_count.Statement.{statement}

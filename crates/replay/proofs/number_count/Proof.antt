@@ -1,4 +1,4 @@
-use Rattle.replay.specs.Change.{numberCount}
+use Rattle.replay.specs.Replay.{numberCount}
 use borrow.Author.Tests.{eq-eqb, ne-eqb}
 use borrow.Author.Needs.{needs}
 use Rattle.replay.proofs.number_count.Statement.{statement}

@@ -1,3 +1,4 @@
+use Rattle.replay.proofs.Seams.{below, lent, seam, replayed}
 use lib.Seq.{length-take-le}
 use mathlib.Core.Path.{sym}
 use borrow.Author.Needs.{needs}
@@ -58,56 +59,56 @@ cast-least-8 c = search needs
 least-requires-8 : tie.Need-least-requires-8
 least-requires-8 c κs = search needs
 
-slice-relend-prefix-work : tie.Need-slice-relend-prefix-work
-slice-relend-prefix-work c = search needs
+slice-relend-prefix-play : tie.Need-slice-relend-prefix-play
+slice-relend-prefix-play c = below _ _ _ (c .before .before .before .before .before .before .before .before .before .before .before .before .before .before .least .ensures)
 
-slice-aggregate-work : tie.Need-slice-aggregate-work
-slice-aggregate-work c = sym (length-take-le _ _ (search needs))
+slice-aggregate-play : tie.Need-slice-aggregate-play
+slice-aggregate-play c = sym (length-take-le _ _ (below _ _ _ (c .before .before .before .before .before .before .before .before .before .before .before .before .before .before .before .least .ensures)))
 
-slice-relend-prefix-work-2 : tie.Need-slice-relend-prefix-work-2
-slice-relend-prefix-work-2 c = search needs
+slice-relend-prefix-play-2 : tie.Need-slice-relend-prefix-play-2
+slice-relend-prefix-play-2 c = below _ _ _ (c .before .before .before .before .before .before .before .before .before .before .before .before .before .least2 .ensures)
 
-slice-aggregate-work-2 : tie.Need-slice-aggregate-work-2
-slice-aggregate-work-2 c = sym (length-take-le _ _ (search needs))
+slice-aggregate-play-2 : tie.Need-slice-aggregate-play-2
+slice-aggregate-play-2 c = sym (length-take-le _ _ (below _ _ _ (c .before .before .before .before .before .before .before .before .before .before .before .before .before .before .least2 .ensures)))
 
-slice-relend-prefix-work-3 : tie.Need-slice-relend-prefix-work-3
-slice-relend-prefix-work-3 c = search needs
+slice-relend-prefix-play-3 : tie.Need-slice-relend-prefix-play-3
+slice-relend-prefix-play-3 c = below _ _ _ (c .before .before .before .before .before .before .before .before .before .before .before .before .least3 .ensures)
 
-slice-aggregate-work-3 : tie.Need-slice-aggregate-work-3
-slice-aggregate-work-3 c = sym (length-take-le _ _ (search needs))
+slice-aggregate-play-3 : tie.Need-slice-aggregate-play-3
+slice-aggregate-play-3 c = sym (length-take-le _ _ (below _ _ _ (c .before .before .before .before .before .before .before .before .before .before .before .before .before .least3 .ensures)))
 
-slice-relend-prefix-work-4 : tie.Need-slice-relend-prefix-work-4
-slice-relend-prefix-work-4 c = search needs
+slice-relend-prefix-play-4 : tie.Need-slice-relend-prefix-play-4
+slice-relend-prefix-play-4 c = below _ _ _ (c .before .before .before .before .before .before .before .before .before .before .before .least4 .ensures)
 
-slice-aggregate-work-4 : tie.Need-slice-aggregate-work-4
-slice-aggregate-work-4 c = sym (length-take-le _ _ (search needs))
+slice-aggregate-play-4 : tie.Need-slice-aggregate-play-4
+slice-aggregate-play-4 c = sym (length-take-le _ _ (below _ _ _ (c .before .before .before .before .before .before .before .before .before .before .before .before .least4 .ensures)))
 
-slice-relend-prefix-work-5 : tie.Need-slice-relend-prefix-work-5
-slice-relend-prefix-work-5 c = search needs
+slice-relend-prefix-play-5 : tie.Need-slice-relend-prefix-play-5
+slice-relend-prefix-play-5 c = below _ _ _ (c .before .before .before .before .before .before .before .before .before .before .least5 .ensures)
 
-slice-aggregate-work-5 : tie.Need-slice-aggregate-work-5
-slice-aggregate-work-5 c = sym (length-take-le _ _ (search needs))
+slice-aggregate-play-5 : tie.Need-slice-aggregate-play-5
+slice-aggregate-play-5 c = sym (length-take-le _ _ (below _ _ _ (c .before .before .before .before .before .before .before .before .before .before .before .least5 .ensures)))
 
-slice-relend-prefix-work-6 : tie.Need-slice-relend-prefix-work-6
-slice-relend-prefix-work-6 c = search needs
+slice-relend-prefix-play-6 : tie.Need-slice-relend-prefix-play-6
+slice-relend-prefix-play-6 c = below _ _ _ (c .before .before .before .before .before .before .before .before .before .least6 .ensures)
 
-slice-aggregate-work-6 : tie.Need-slice-aggregate-work-6
-slice-aggregate-work-6 c = sym (length-take-le _ _ (search needs))
+slice-aggregate-play-6 : tie.Need-slice-aggregate-play-6
+slice-aggregate-play-6 c = sym (length-take-le _ _ (below _ _ _ (c .before .before .before .before .before .before .before .before .before .before .least6 .ensures)))
 
-slice-relend-prefix-work-7 : tie.Need-slice-relend-prefix-work-7
-slice-relend-prefix-work-7 c = search needs
+slice-relend-prefix-play-7 : tie.Need-slice-relend-prefix-play-7
+slice-relend-prefix-play-7 c = below _ _ _ (c .before .before .before .before .before .before .before .before .least7 .ensures)
 
-slice-aggregate-work-7 : tie.Need-slice-aggregate-work-7
-slice-aggregate-work-7 c = sym (length-take-le _ _ (search needs))
+slice-aggregate-play-7 : tie.Need-slice-aggregate-play-7
+slice-aggregate-play-7 c = sym (length-take-le _ _ (below _ _ _ (c .before .before .before .before .before .before .before .before .before .least7 .ensures)))
 
-slice-relend-prefix-work-8 : tie.Need-slice-relend-prefix-work-8
-slice-relend-prefix-work-8 c = search needs
+slice-relend-prefix-play-8 : tie.Need-slice-relend-prefix-play-8
+slice-relend-prefix-play-8 c = below _ _ _ (c .before .before .before .before .before .before .before .least8 .ensures)
 
-slice-aggregate-work-8 : tie.Need-slice-aggregate-work-8
-slice-aggregate-work-8 c = sym (length-take-le _ _ (search needs))
+slice-aggregate-play-8 : tie.Need-slice-aggregate-play-8
+slice-aggregate-play-8 c = sym (length-take-le _ _ (below _ _ _ (c .before .before .before .before .before .before .before .before .least8 .ensures)))
 
-work-requires : tie.Need-work-requires
-work-requires c κs = search needs
+play-requires : tie.Need-play-requires
+play-requires c κs = search needs
 
 same-length : tie.Need-same-length
 same-length c = search needs
@@ -134,7 +135,7 @@ same-length-8 : tie.Need-same-length-8
 same-length-8 c = search needs
 
 returns : tie.Need-returns
-returns c = search needs
+returns c = replayed _ _ _ _ _ _ _ _ _ _ _ _ _ _ _ _ _ _ _ _ _ _ _ _ _ _ _ _ _ _ (seam _ _ _ _ (c .before .before .before .before .before .before .before .before .before .before .before .before .before .before .before .before .before .before .before .before .before .before .before .before .before .before .before .before .before .before .before .before .before .before .before .before .before .before .before .least .ensures) (c .before .before .before .before .before .before .before .before .before .before .before .before .before .before .before .before .play .kept .1 .0)) (seam _ _ _ _ (c .before .before .before .before .before .before .before .before .before .before .before .before .before .before .before .before .before .before .before .before .before .before .before .before .before .before .before .before .before .before .before .before .before .before .before .before .before .least2 .ensures) (c .before .before .before .before .before .before .before .before .before .before .before .before .before .before .before .before .play .kept .1 .1 .0)) (seam _ _ _ _ (c .before .before .before .before .before .before .before .before .before .before .before .before .before .before .before .before .before .before .before .before .before .before .before .before .before .before .before .before .before .before .before .before .before .before .before .least3 .ensures) (c .before .before .before .before .before .before .before .before .before .before .before .before .before .before .before .before .play .kept .1 .1 .1 .0)) (seam _ _ _ _ (c .before .before .before .before .before .before .before .before .before .before .before .before .before .before .before .before .before .before .before .before .before .before .before .before .before .before .before .before .before .before .before .before .before .least4 .ensures) (c .before .before .before .before .before .before .before .before .before .before .before .before .before .before .before .before .play .kept .1 .1 .1 .1 .0)) (seam _ _ _ _ (c .before .before .before .before .before .before .before .before .before .before .before .before .before .before .before .before .before .before .before .before .before .before .before .before .before .before .before .before .before .before .before .least5 .ensures) (c .before .before .before .before .before .before .before .before .before .before .before .before .before .before .before .before .play .kept .1 .1 .1 .1 .1 .0)) (seam _ _ _ _ (c .before .before .before .before .before .before .before .before .before .before .before .before .before .before .before .before .before .before .before .before .before .before .before .before .before .before .before .before .before .least6 .ensures) (c .before .before .before .before .before .before .before .before .before .before .before .before .before .before .before .before .play .kept .1 .1 .1 .1 .1 .1 .0)) (lent _ _ _ _ (c .before .before .before .before .before .before .before .before .before .before .before .before .before .before .before .before .before .before .before .before .before .before .before .before .before .before .before .before .number-count .ensures) (c .before .before .before .before .before .before .before .before .before .before .before .before .before .before .before .before .before .before .before .before .before .before .before .before .before .before .before .least7 .ensures)) (lent _ _ _ _ (c .before .before .before .before .before .before .before .before .before .before .before .before .before .before .before .before .before .before .before .before .before .before .before .before .before .before .list-count .ensures) (c .before .before .before .before .before .before .before .before .before .before .before .before .before .before .before .before .before .before .before .before .before .before .before .before .before .least8 .ensures)) (c .before .before .before .before .before .before .before .before .before .before .before .before .before .before .before .before .play .ensures)
 
 pub replay-spec : {M : Type 1} → statement M
 replay-spec =
@@ -158,23 +159,23 @@ replay-spec =
     list-count-requires
     cast-least-8
     least-requires-8
-    slice-relend-prefix-work
-    slice-aggregate-work
-    slice-relend-prefix-work-2
-    slice-aggregate-work-2
-    slice-relend-prefix-work-3
-    slice-aggregate-work-3
-    slice-relend-prefix-work-4
-    slice-aggregate-work-4
-    slice-relend-prefix-work-5
-    slice-aggregate-work-5
-    slice-relend-prefix-work-6
-    slice-aggregate-work-6
-    slice-relend-prefix-work-7
-    slice-aggregate-work-7
-    slice-relend-prefix-work-8
-    slice-aggregate-work-8
-    work-requires
+    slice-relend-prefix-play
+    slice-aggregate-play
+    slice-relend-prefix-play-2
+    slice-aggregate-play-2
+    slice-relend-prefix-play-3
+    slice-aggregate-play-3
+    slice-relend-prefix-play-4
+    slice-aggregate-play-4
+    slice-relend-prefix-play-5
+    slice-aggregate-play-5
+    slice-relend-prefix-play-6
+    slice-aggregate-play-6
+    slice-relend-prefix-play-7
+    slice-aggregate-play-7
+    slice-relend-prefix-play-8
+    slice-aggregate-play-8
+    play-requires
     same-length
     same-length-2
     same-length-3

@@ -1,0 +1,2 @@
+-- The laws behind the lending of the first entries.
+pub mod Seams

@@ -1,0 +1,2 @@
+-- The laws behind the records that call.
+pub mod Calls

@@ -1,0 +1,2 @@
+-- The laws behind the records that change the table.
+pub mod Changes

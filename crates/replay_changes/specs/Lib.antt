@@ -1,0 +1,2 @@
+-- What the records of the stored list leave that change the table themselves.
+pub mod Change

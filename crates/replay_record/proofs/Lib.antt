@@ -1,0 +1,2 @@
+-- The laws behind any record.
+pub mod Arms

@@ -1,0 +1,2 @@
+-- What a record of the stored list leaves.
+pub mod Record
