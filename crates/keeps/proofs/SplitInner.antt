@@ -325,9 +325,6 @@ module _ {live : ℕ → Type 0} {opp vtx : ℕ → ℕ} {c1 c2 c0 c4 c5 c3 : �
         not2 : next d ≢ c0 → d ≢ c2
         not2 n z = n (cc)
 
-        not3 : opp d ≢ c1 → next d ≢ c4 → d ≢ c3
-        not3 m n z = n (cc)
-
         -- where a step over c0 or c5 lands
         lands0 : opp c0 ≢ absent → next (opp c0) ≡ e → opp c0 ≢ c5 → φ e ≡ e
         lands0 t′ l′ n = φ-off e (rw (← l′) (next-not2 (opp c0) (λ z. opp-not-next L c0 (l0 L A) t′ (z ∙ sym (A .f .n2))))) (rw (← l′) (next-not3 (opp c0) n))

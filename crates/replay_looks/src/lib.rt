@@ -25,6 +25,7 @@ ghost use Rattle.replay_looks.specs.Look.{
 };
 use corner::Corner;
 use flag::both;
+use lists::Ring;
 use records::first;
 use records::hold_numbers;
 use records::holds;
@@ -33,7 +34,6 @@ use records::past;
 use table::Counts;
 use table::at;
 use table::fill;
-use lists::Ring;
 use vertex::Vertex;
 use walker::Moved;
 
