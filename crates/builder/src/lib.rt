@@ -1,6 +1,5 @@
 // builder.rs: a table from points and faces, in lent memory.
 ghost use mathlib.Core.Path.{_≡_};
-ghost use mathlib.Core.Bool.{cond};
 ghost use mathlib.Core.List.{List};
 ghost use lib.Ieee.{Float};
 ghost use lib.ListN.{length};
@@ -8,6 +7,7 @@ ghost use Rattle.table.specs.Table.{table, blank, Shaped};
 ghost use Rattle.build.specs.Build.{built, go, build as buildOf, finish as finishOf, faces as facesOf, start, laid};
 ghost use Rattle.builder_faces.specs.Steps.{soFar};
 ghost use Rattle.builder.specs.Calls.{Begun, Fresh};
+use builder_edges::points_refusal;
 use table::Counts;
 
 // The answer, how many faces were skipped, and how much of the table is used.
@@ -31,7 +31,7 @@ fn clear(
         (r .vertices) (r .corners)
         ≡ blank (length (now (cm .entry))) (length (now (vm .entry))) ⌝ }
 {
-    table::blank(cv, co, cm, vc, vm, vp);
+    create::blank(cv, co, cm, vc, vm, vp);
     Counts {
         vertices: 0,
         corners: 0,
@@ -115,19 +115,6 @@ fn add_all(
     finish(cv, co, cm, vc, vm, vp, r.corners, count, room, r.skipped)
 }
 
-// More points than room, 5, before a point not finite, 4; or 0.
-fn refusal(over: bool, infinite: bool) -> u32
-    ensures { λ r. ⌜ r ≡ cond over 5 (cond infinite 4 0) ⌝ }
-{
-    if over {
-        return 5;
-    }
-    if infinite {
-        return 4;
-    }
-    0
-}
-
 // Builds the table in the six lent parts. The counts are those of the table that was there; they come back where nothing is written.
 pub fn build(
     cv: &mut [u32],
@@ -164,7 +151,7 @@ pub fn build(
     let room = vm.len();
     let count = points.len() / 3;
     let blank = clear(cv, co, cm, vc, vm, vp);
-    let a = refusal(room < count, !builder_faces::all_finite(points));
+    let a = points_refusal(room < count, !builder_faces::all_finite(points));
     if a != 0 {
         return Built {
             answer: a,

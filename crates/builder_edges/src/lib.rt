@@ -1,5 +1,5 @@
-// builder.rs: a face before it is kept: its indices, and the edges of it that are known. The HashMap of edges is a plain search over the kept
-// corners.
+// builder.rs: what is asked of the points, and of a face before it is kept: its indices, and the edges of it that are known. The HashMap of
+// edges is a plain search over the kept corners.
 //
 // For each face there is one pass over the kept faces, which looks for its six directed edges at once: its own three, that must not be
 // held yet, and the same three the other way round, whose corners become opposites.
@@ -167,4 +167,19 @@ pub fn taken(bc: u32, ca: u32, ab: u32) -> bool
         return true;
     }
     ab != 4294967295
+}
+
+// ---- what is asked of the points
+
+// More points than room, 5, before a point not finite, 4; or 0.
+pub fn points_refusal(over: bool, infinite: bool) -> u32
+    ensures { λ r. ⌜ r ≡ cond over 5 (cond infinite 4 0) ⌝ }
+{
+    if over {
+        return 5;
+    }
+    if infinite {
+        return 4;
+    }
+    0
 }

@@ -1,14 +1,11 @@
 // The main job: one patch file, named on the command line, is built, checked and edited by its script, and what came of it is printed.
-//
-// docs/FORMATS.md has the form of the file: four words (the magic one; how many points, faces and commands), then the words of each.
 ghost use mathlib.Core.Path.{_≡_};
-ghost use Prim.Native.Nat.{_≤_, _<_};
-ghost use lib.ListN.{take};
-ghost use Rattle.patch.specs.File.{limited, size as sizeOf, ended, faultOf, pointWords, faceWords, scriptWords};
-use command::first as refusal;
-use command::when;
-use records::first;
-use records::past;
+ghost use Prim.Native.Nat.{_≤_};
+use file::face_words;
+use file::fault;
+use file::front;
+use file::point_words;
+use file::script_words;
 use report::edit;
 use report::put;
 use report::say;
@@ -39,68 +36,6 @@ fn load(fd: i32, words: &mut [u32]) -> u32
         turn += 1;
     }
     bytes
-}
-
-// 3 above a limit.
-fn limit(points: u32, faces: u32, commands: u32) -> u32
-    ensures { λ r. ⌜ r ≡ limited points faces commands ⌝ }
-{
-    let later = refusal(when(faces > 32768, 3), when(commands > 16384, 3));
-    refusal(when(points > 16384, 3), later)
-}
-
-// 4 cut short, 5 longer than it says.
-fn end(bytes: u64, points: u64, faces: u64, commands: u64) -> u32
-    requires { ⌜ (points < 4294967296) × (faces < 4294967296) × (commands < 4294967296) ⌝ }
-    ensures { λ r. ⌜ r ≡ ended bytes (sizeOf points faces commands) ⌝ }
-{
-    let size = 16 + 12 * points + 12 * faces + 20 * commands;
-    refusal(when(bytes < size, 4), when(size < bytes, 5))
-}
-
-// What is wrong with a file of that many bytes: 0 nothing, 1 it is empty, 2 it is no patch, 3 it is above a limit, 4 it is cut short, 5 it is
-// longer than it says.
-fn fault(words: &[u32], bytes: u32) -> u32
-    ensures { λ r. ⌜ r ≡ faultOf (now (words .entry)) bytes ⌝ }
-{
-    let points = at(words, 1, 0);
-    let faces = at(words, 2, 0);
-    let commands = at(words, 3, 0);
-    let said = refusal(
-        limit(points, faces, commands),
-        end(bytes as u64, points as u64, faces as u64, commands as u64),
-    );
-    let whole = refusal(when(bytes < 16, 4), said);
-    let magic = at(words, 0, 0) == 827479123;
-    refusal(when(bytes == 0, 1), refusal(when(!magic, 2), whole))
-}
-
-// The parts of a patch: the words of its points, of its faces and of its script.
-fn point_words(words: &[u32]) -> &[u32]
-    ensures { λ r. ⌜ now r ≡ pointWords (now (words .entry)) ⌝ }
-{
-    first(past(words, 4), 3 * (at(words, 1, 0) as usize))
-}
-
-fn face_words(words: &[u32]) -> &[u32]
-    ensures { λ r. ⌜ now r ≡ faceWords (now (words .entry)) ⌝ }
-{
-    let from = 4 + 3 * (at(words, 1, 0) as usize);
-    first(past(words, from), 3 * (at(words, 2, 0) as usize))
-}
-
-fn script_words(words: &[u32]) -> &[u32]
-    ensures { λ r. ⌜ now r ≡ scriptWords (now (words .entry)) ⌝ }
-{
-    let from = 4 + 3 * (at(words, 1, 0) as usize) + 3 * (at(words, 2, 0) as usize);
-    first(past(words, from), 5 * (at(words, 3, 0) as usize))
-}
-
-// The first n numbers.
-fn front(l: &[f32], n: usize) -> &[f32]
-    ensures { λ r. ⌜ now r ≡ take n (now (l .entry)) ⌝ }
-{
-    if n <= l.len() { &l[..n] } else { l }
 }
 
 // ---- what is said of the file

@@ -4,7 +4,6 @@
 // The parts of a table: the corners' vertices, opposites and marks (cv, co, cm), the vertices' corners, marks and points (vc, vm, vp). The
 // counts, a corner and a vertex go as numbers: C knows no `Counts`, `Corner` or `Vertex`.
 ghost use mathlib.Core.Path.{_≡_};
-ghost use mathlib.Core.Bool.{cond};
 ghost use Rattle.table.specs.Table.{table};
 ghost use Rattle.build.specs.Build.{built, build as buildOf};
 ghost use Rattle.checker.specs.Order.{verdictOf};
@@ -318,20 +317,13 @@ pub extern "C" fn strandomir_ring_bounding_edges(
 // Each takes the corner that a walker stands at, and any table. It answers 0, 1, 9, 10 or 15 and whether the walker moved, and leaves the
 // corner that it moved to: the old one after a refusal, and where there is no opposite. The table is only read.
 
-// A bool in C's terms.
-fn number(b: bool) -> u32
-    ensures { λ r. ⌜ r ≡ cond b 1 0 ⌝ }
-{
-    if b { 1 } else { 0 }
-}
-
 // A step in C's terms.
 fn told(step: walker::Step) -> Moved
     ensures { λ r. ⌜ r ≡ toldOf step ⌝ }
 {
     Moved {
         answer: step.answer,
-        moved: number(step.moved),
+        moved: flag::one_if(step.moved),
     }
 }
 

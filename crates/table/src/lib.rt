@@ -6,7 +6,6 @@
 ghost use mathlib.Core.Path.{_≡_};
 ghost use Prim.Native.Nat.{_+_, _*_, _<_};
 ghost use lib.ListN.{getD, set, length};
-ghost use Rattle.corner.specs.Corner.{absent};
 ghost use Rattle.table.specs.Slots.{vertexAt, oppositeAt, cornerAt, nought, pointAt, withPoint, paired, three, blanked};
 ghost use Rattle.table.specs.Table.{shapedBy, live};
 use corner::Corner;
@@ -201,42 +200,6 @@ pub fn put_three(l: &mut [u32], n: u32, a: u32, b: u32, c: u32)
     put(l, i + 2, c);
 }
 
-pub fn create_vertex(
-    vc: &mut [u32],
-    vm: &mut [u32],
-    vp: &mut [f32],
-    n: u32,
-    corner: Corner,
-    position: Point,
-)
-    ensures { λ r. ⌜ (now (vc .exit) ≡ set (now (vc .entry)) n (corner .0))
-        × (now (vm .exit) ≡ set (now (vm .entry)) n 0)
-        × (now (vp .exit) ≡ withPoint (now (vp .entry)) n position) ⌝ }
-{
-    set_corner(vc, Vertex(n), corner);
-    set_mark(vm, n, 0);
-    set_position(vp, Vertex(n), position);
-}
-
-// A face without opposites.
-pub fn create_isolated_face_from_vertices(
-    cv: &mut [u32],
-    co: &mut [u32],
-    cm: &mut [u32],
-    n: u32,
-    v1: Vertex,
-    v2: Vertex,
-    v3: Vertex,
-)
-    ensures { λ r. ⌜ (now (cv .exit) ≡ three (now (cv .entry)) n (v1 .0) (v2 .0) (v3 .0))
-        × (now (co .exit) ≡ three (now (co .entry)) n absent absent absent)
-        × (now (cm .exit) ≡ three (now (cm .entry)) n 0 0 0) ⌝ }
-{
-    put_three(cv, n, v1.0, v2.0, v3.0);
-    put_three(co, n, 4294967295, 4294967295, 4294967295);
-    put_three(cm, n, 0, 0, 0);
-}
-
 // ---- the whole table
 
 pub fn fill(l: &mut [u32], v: u32)
@@ -258,30 +221,6 @@ pub fn fill_nought(l: &mut [f32])
         l[i] = zero;
         i += 1;
     }
-}
-
-// Every slot blank, as a refused build leaves them.
-pub fn blank(
-    cv: &mut [u32],
-    co: &mut [u32],
-    cm: &mut [u32],
-    vc: &mut [u32],
-    vm: &mut [u32],
-    vp: &mut [f32],
-)
-    ensures { λ r. ⌜ (now (cv .exit) ≡ blanked 0 (now (cv .entry)))
-        × (now (co .exit) ≡ blanked absent (now (co .entry)))
-        × (now (cm .exit) ≡ blanked 0 (now (cm .entry)))
-        × (now (vc .exit) ≡ blanked absent (now (vc .entry)))
-        × (now (vm .exit) ≡ blanked 0 (now (vm .entry)))
-        × (now (vp .exit) ≡ blanked nought (now (vp .entry))) ⌝ }
-{
-    fill(cv, 0);
-    fill(co, 4294967295);
-    fill(cm, 0);
-    fill(vc, 4294967295);
-    fill(vm, 0);
-    fill_nought(vp);
 }
 
 // The test behind answer 1, on the lengths of the six parts.

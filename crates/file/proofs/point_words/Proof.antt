@@ -1,7 +1,7 @@
--- `patch::point_words` meets its contract.
+-- `file::point_words` meets its contract.
 use borrow.Author.Needs.{needs}
-use Rattle.patch.proofs.point_words.Statement.{statement}
-use Rattle.patch.proofs.point_words.Tie as tie
+use Rattle.file.proofs.point_words.Statement.{statement}
+use Rattle.file.proofs.point_words.Tie as tie
 
 past-requires : tie.Need-past-requires
 past-requires c κs = search needs

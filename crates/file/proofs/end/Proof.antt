@@ -1,8 +1,8 @@
--- `patch::end` meets its contract.
-use Rattle.patch.specs.File.{ended}
+-- `file::end` meets its contract.
+use Rattle.file.specs.File.{ended}
 use borrow.Author.Needs.{needs}
-use Rattle.patch.proofs.end.Statement.{statement}
-use Rattle.patch.proofs.end.Tie as tie
+use Rattle.file.proofs.end.Statement.{statement}
+use Rattle.file.proofs.end.Tie as tie
 
 mul-size : tie.Need-mul-size
 mul-size c = search needs

@@ -1,8 +1,8 @@
--- `patch::fault` meets its contract.
-use Rattle.patch.specs.File.{faultOf}
+-- `file::fault` meets its contract.
+use Rattle.file.specs.File.{faultOf}
 use borrow.Author.Needs.{needs}
-use Rattle.patch.proofs.fault.Statement.{statement}
-use Rattle.patch.proofs.fault.Tie as tie
+use Rattle.file.proofs.fault.Statement.{statement}
+use Rattle.file.proofs.fault.Tie as tie
 
 at-requires : tie.Need-at-requires
 at-requires c κs = search needs

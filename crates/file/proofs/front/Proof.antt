@@ -1,10 +1,10 @@
--- `patch::front` meets its contract.
+-- `file::front` meets its contract.
 use Rattle.records.proofs.Loops.{whole-take}
 use lib.Seq.{length-take-le}
 use mathlib.Core.Path.{sym}
 use borrow.Author.Needs.{needs}
-use Rattle.patch.proofs.front.Statement.{statement}
-use Rattle.patch.proofs.front.Tie as tie
+use Rattle.file.proofs.front.Statement.{statement}
+use Rattle.file.proofs.front.Tie as tie
 
 slice-aggregate-result : tie.Need-slice-aggregate-result
 slice-aggregate-result c = sym (length-take-le _ _ (search needs))

@@ -1,8 +1,8 @@
--- `patch::limit` meets its contract.
-use Rattle.patch.specs.File.{limited}
+-- `file::limit` meets its contract.
+use Rattle.file.specs.File.{limited}
 use borrow.Author.Needs.{needs}
-use Rattle.patch.proofs.limit.Statement.{statement}
-use Rattle.patch.proofs.limit.Tie as tie
+use Rattle.file.proofs.limit.Statement.{statement}
+use Rattle.file.proofs.limit.Tie as tie
 
 when-requires : tie.Need-when-requires
 when-requires c κs = search needs

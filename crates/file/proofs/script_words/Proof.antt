@@ -1,7 +1,7 @@
--- `patch::face_words` meets its contract.
+-- `file::script_words` meets its contract.
 use borrow.Author.Needs.{needs}
-use Rattle.patch.proofs.face_words.Statement.{statement}
-use Rattle.patch.proofs.face_words.Tie as tie
+use Rattle.file.proofs.script_words.Statement.{statement}
+use Rattle.file.proofs.script_words.Tie as tie
 
 at-requires : tie.Need-at-requires
 at-requires c κs = search needs
@@ -15,11 +15,23 @@ mul-from c = search needs
 add-from : tie.Need-add-from
 add-from c = search needs
 
+at-requires-2 : tie.Need-at-requires-2
+at-requires-2 c κs = search needs
+
+cast-from-2 : tie.Need-cast-from-2
+cast-from-2 c = search needs
+
+mul-from-2 : tie.Need-mul-from-2
+mul-from-2 c = search needs
+
+add-from-2 : tie.Need-add-from-2
+add-from-2 c = search needs
+
 past-requires : tie.Need-past-requires
 past-requires c κs = search needs
 
-at-requires-2 : tie.Need-at-requires-2
-at-requires-2 c κs = search needs
+at-requires-3 : tie.Need-at-requires-3
+at-requires-3 c κs = search needs
 
 cast-first : tie.Need-cast-first
 cast-first c = search needs
@@ -33,16 +45,20 @@ first-requires c κs = search needs
 returns : tie.Need-returns
 returns c = cc
 
-pub face-words-spec : {M : Type 1} → statement M
-face-words-spec =
+pub script-words-spec : {M : Type 1} → statement M
+script-words-spec =
     tie.close
     (tie.spec
     at-requires
     cast-from
     mul-from
     add-from
-    past-requires
     at-requires-2
+    cast-from-2
+    mul-from-2
+    add-from-2
+    past-requires
+    at-requires-3
     cast-first
     mul-first
     first-requires
