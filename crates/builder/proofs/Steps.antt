@@ -11,7 +11,7 @@ use lib.Ieee.{Float}
 use lib.ListN.{length, getD, drop, replicate, length-replicate}
 use lib.Seq.{sets, sets-eq}
 use Rattle.corner.specs.Corner.{absent}
-use Rattle.table.specs.Slots.{nought, blanked}
+use Rattle.table.specs.Slots.{nought}
 use Rattle.table.specs.Table.{Table, table, blank, shapedBy, Shaped}
 use Rattle.table.proofs.Shape.{shaped-true}
 use Rattle.table.specs.declared.Counts.{Counts}
@@ -27,13 +27,6 @@ use Rattle.builder_faces.specs.Steps.{soFar, stepped}
 use Rattle.builder_fans.specs.Chains.{shared, Ended, Threads, threads, threaded, marked, settled}
 use Rattle.builder_fans.proofs.Marks.{fast}
 use Rattle.builder.specs.Calls.{Fresh, Begun}
-
--- parts that agree, each filled with its blank, are the blank table
-pub cleared : (cv co cm vc vm cv′ co′ cm′ vc′ vm′ : List ℕ) (vp vp′ : List Float) → Shaped (table cv co cm vc vm vp 0 0)
-    → (cv′ ≡ blanked 0 cv) × (co′ ≡ blanked absent co) × (cm′ ≡ blanked 0 cm) × (vc′ ≡ blanked absent vc) × (vm′ ≡ blanked 0 vm) × (vp′ ≡ blanked nought vp)
-    → table cv′ co′ cm′ vc′ vm′ vp′ 0 0 ≡ blank (length cm) (length vm)
-cleared cv co cm vc vm cv′ co′ cm′ vc′ vm′ vp vp′ S e =
-    rw (e .0, e .1, e .2, e .3, e .4, e .5, S .cornerVertexRoom, S .cornerOppositeRoom, S .vertexCornerRoom, S .vertexPointRoom)
 
 -- a cleared table is the refusal's
 pub made-blank : (rc rv a c v : ℕ) (t : Table) → t ≡ blank c v → c ≡ rc → v ≡ rv → built a 0 t ≡ refused rc rv a

@@ -3,7 +3,7 @@ ghost use mathlib.Core.Path.{_≡_};
 ghost use mathlib.Core.List.{List};
 ghost use lib.Ieee.{Float};
 ghost use lib.ListN.{length};
-ghost use Rattle.table.specs.Table.{table, blank, Shaped};
+ghost use Rattle.table.specs.Table.{table};
 ghost use Rattle.build.specs.Build.{built, go, build as buildOf, finish as finishOf, faces as facesOf, start, laid};
 ghost use Rattle.builder_faces.specs.Steps.{soFar};
 ghost use Rattle.builder.specs.Calls.{Begun, Fresh};
@@ -15,27 +15,6 @@ pub struct Built {
     pub answer: u32,
     pub skipped: usize,
     pub counts: Counts,
-}
-
-// Every slot blank; the counts of such a table.
-fn clear(
-    cv: &mut [u32],
-    co: &mut [u32],
-    cm: &mut [u32],
-    vc: &mut [u32],
-    vm: &mut [u32],
-    vp: &mut [f32],
-) -> Counts
-    requires { ⌜ Shaped (table (now cv) (now co) (now cm) (now vc) (now vm) (now vp) 0 0) ⌝ }
-    ensures { λ r. ⌜ table (now (cv .exit)) (now (co .exit)) (now (cm .exit)) (now (vc .exit)) (now (vm .exit)) (now (vp .exit))
-        (r .vertices) (r .corners)
-        ≡ blank (length (now (cm .entry))) (length (now (vm .entry))) ⌝ }
-{
-    create::blank(cv, co, cm, vc, vm, vp);
-    Counts {
-        vertices: 0,
-        corners: 0,
-    }
 }
 
 // After the faces: duplicates, or the blank table where they don't fit; then deleted vertices. The marks hold the corners left until
@@ -62,7 +41,7 @@ fn finish(
     builder_fans::thread_left(cv, cm, vm, n);
     let u = builder_fans::settle(co, cm, vm, cv, vc, vp, n, room, count);
     if u > room {
-        let none = clear(cv, co, cm, vc, vm, vp);
+        let none = create::clear(cv, co, cm, vc, vm, vp);
         return Built {
             answer: 5,
             skipped: 0,
@@ -105,7 +84,7 @@ fn add_all(
     builder_faces::add_vertices(vp, points);
     let r = builder_faces::add_faces(cv, co, vc, count, corners, faces);
     if r.answer != 0 {
-        let none = clear(cv, co, cm, vc, vm, vp);
+        let none = create::clear(cv, co, cm, vc, vm, vp);
         return Built {
             answer: r.answer,
             skipped: 0,
@@ -150,7 +129,7 @@ pub fn build(
     let corners = cm.len();
     let room = vm.len();
     let count = points.len() / 3;
-    let blank = clear(cv, co, cm, vc, vm, vp);
+    let blank = create::clear(cv, co, cm, vc, vm, vp);
     let a = points_refusal(room < count, !builder_faces::all_finite(points));
     if a != 0 {
         return Built {

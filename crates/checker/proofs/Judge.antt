@@ -16,7 +16,7 @@ use Rattle.kinds.specs.declared.Test.the-variants.{Counts, CornerMark, FaceMark
 use Rattle.kinds.specs.declared.Test.the-variants.{FaceVertex, Opposite, VertexCorner, CornerFan, Finite}
 use Rattle.kinds.proofs.Places.{place, test-place, place-test, rule-order}
 use Rattle.rules.specs.Tests.{holds, AllHold}
-use Rattle.rules.proofs.Walks.{fan-near}
+use Rattle.near.proofs.Walks.{fan-near}
 use Rattle.rules.proofs.Rules.{At, holds-at, at-holds}
 use Rattle.checker.specs.First.{firstBad}
 use Rattle.checker.specs.Order.{firstOf, clean, passed, disagree, broken, ruled, verdictOf}

@@ -16,7 +16,7 @@ use Rattle.kinds.specs.declared.Test.the-variants.{Counts, CornerMark, FaceMark
 use Rattle.kinds.specs.declared.Test.the-variants.{FaceVertex, Opposite, VertexCorner, CornerFan, Finite}
 use Rattle.kinds.proofs.Places.{place}
 use Rattle.rules.specs.Tests.{holds, AllHold}
-use Rattle.rules.proofs.Walks.{Hit, near-hit, fan-near}
+use Rattle.near.proofs.Walks.{Hit, near-hit, fan-near}
 use Rattle.rules.proofs.Rules.{At, holds-at, at-holds}
 use Rattle.checker.specs.Blame.{Keeps, Slot}
 

@@ -6,7 +6,7 @@ use native.Mathlib.Omega.{arith}
 use native.Mathlib.Decide.{ℕ-discrete}
 use borrow.Author.Tests.{eq-eqb, ne-eqb}
 use lib.Dec.{eqb}
-use Rattle.command.specs.Answers.{first, when}
+use Rattle.command.specs.Checks.{first, when}
 
 -- a check that refuses ends the chain; one that passes hands on
 pub first-stop : (a b : ℕ) → (a ≡ 0 → ⊥) → a ≡ first a b

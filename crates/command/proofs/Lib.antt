@@ -1,4 +1,3 @@
--- Laws of a command.
+-- Laws of the checks.
 pub mod Chain
-pub mod Passed
 pub mod Cases

@@ -1,4 +1,3 @@
--- One command of a script: what it is, what it answers, what it does.
+-- One command of a script: what it is, and what is asked of it without the table.
 pub mod Decode
-pub mod Answers
-pub mod Step
+pub mod Checks

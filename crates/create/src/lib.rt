@@ -1,9 +1,11 @@
 // create_vertex and create_isolated_face_from_vertices of edit.rs, and the blank table: what puts several parts at once.
 ghost use mathlib.Core.Path.{_≡_};
-ghost use lib.ListN.{set};
+ghost use lib.ListN.{length, set};
 ghost use Rattle.corner.specs.Corner.{absent};
 ghost use Rattle.table.specs.Slots.{nought, withPoint, three, blanked};
+ghost use Rattle.table.specs.Table.{table, blank as blankOf, Shaped};
 use corner::Corner;
+use table::Counts;
 use table::fill;
 use table::fill_nought;
 use table::put_three;
@@ -54,7 +56,7 @@ pub fn create_isolated_face_from_vertices(
 // ---- the whole table
 
 // Every slot blank, as a refused build leaves them.
-pub fn blank(
+fn blank(
     cv: &mut [u32],
     co: &mut [u32],
     cm: &mut [u32],
@@ -75,4 +77,25 @@ pub fn blank(
     fill(vc, 4294967295);
     fill(vm, 0);
     fill_nought(vp);
+}
+
+// Every slot blank; the counts of such a table.
+pub fn clear(
+    cv: &mut [u32],
+    co: &mut [u32],
+    cm: &mut [u32],
+    vc: &mut [u32],
+    vm: &mut [u32],
+    vp: &mut [f32],
+) -> Counts
+    requires { ⌜ Shaped (table (now cv) (now co) (now cm) (now vc) (now vm) (now vp) 0 0) ⌝ }
+    ensures { λ r. ⌜ table (now (cv .exit)) (now (co .exit)) (now (cm .exit)) (now (vc .exit)) (now (vm .exit)) (now (vp .exit))
+        (r .vertices) (r .corners)
+        ≡ blankOf (length (now (cm .entry))) (length (now (vm .entry))) ⌝ }
+{
+    blank(cv, co, cm, vc, vm, vp);
+    Counts {
+        vertices: 0,
+        corners: 0,
+    }
 }

@@ -4,7 +4,7 @@ use mathlib.Core.Bool.{not}
 use mathlib.Core.List.{List}
 use lib.Dec.{eqb, ltb}
 use lib.ListN.{getD, take, drop}
-use Rattle.command.specs.Answers.{first, when}
+use Rattle.command.specs.Checks.{first, when}
 
 -- "STR1"
 abbrev pub magic : ℕ

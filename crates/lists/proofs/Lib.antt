@@ -2,4 +2,3 @@
 pub mod Reached
 pub mod Loops
 pub mod Answers
-pub mod Short

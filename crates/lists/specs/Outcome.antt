@@ -1,8 +1,6 @@
 -- What a ring call leaves of its walk. Document 01, "Ring lists and the walker".
 use Prim.Native.Nat.{ℕ, _+_}
 use mathlib.Core.List.{List, _++_}
-use mathlib.Core.Path.{_≡_}
-use mathlib.Core.Logic.{_≢_}
 use mathlib.Core.Bool.{cond}
 use lib.ListN.{length, drop}
 use lib.Dec.{leb}
@@ -38,20 +36,6 @@ abbrev pub walked : Kind → List ℕ → Walk → List ℕ → RingOutcome
 walked kind cv tangled list = refused 15 list
 walked kind cv (closed c l) list = listed (length (visits (closed c l))) (entries kind cv (closed c l)) list
 walked kind cv (open′ c l r) list = listed (length (visits (open′ c l r))) (entries kind cv (open′ c l r)) list
-
--- a call that wrote n entries for as many visits
-abbrev pub full : ℕ → List ℕ → RingOutcome
-full n list = record { answer = 0; visited = n; written = n; list = list }
-
--- what is written on the way: nothing past the first 16 words, and all of a ring of n corners where n is not 0
-pub record Short (kind : Kind) (cv : List ℕ) (w : Walk) (n : ℕ) (before after : List ℕ) : Type 0 where
-  pub past : drop 16 after ≡ drop 16 before
-  pub ring : n ≢ 0 → full n after ≡ walked kind cv w before
-
--- the same once the first 16 words are put back where n is 0
-pub record Tried (kind : Kind) (cv : List ℕ) (w : Walk) (n : ℕ) (before after : List ℕ) : Type 0 where
-  pub none : n ≡ 0 → after ≡ before
-  pub ring : n ≢ 0 → full n after ≡ walked kind cv w before
 
 -- how many words of a list a walk takes, by its counts: one for each visit and, on a border, one more where the first corner has two. A
 -- tangled walk takes one at least

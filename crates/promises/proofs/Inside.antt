@@ -34,10 +34,12 @@ use Rattle.checker.proofs.Judge.{verdict-sound}
 use Rattle.command.specs.declared.Edit.{Edit}
 use Rattle.command.specs.declared.Edit.the-variants.{Collapse, Flip, SplitEdge, SplitFace, Unknown}
 use Rattle.command.specs.Decode.{commandAt}
-use Rattle.command.specs.Answers.{collapseAnswer, flipAnswer, splitEdgeAnswer, splitFaceAnswer, answer}
+use Rattle.answers.specs.Answers.{collapseAnswer, flipAnswer, splitEdgeAnswer, splitFaceAnswer, answer}
 use Rattle.command.proofs.Chain.{first-left, first-right, when-false}
-use Rattle.command.proofs.Passed.{corner-live, face-live, room-passed, opposite-there}
-use Rattle.script.specs.Run.{whole, progress, fits, run, commands}
+use Rattle.answers.proofs.Passed.{corner-live, face-live, room-passed, opposite-there}
+use Rattle.command.specs.Checks.{fits}
+use Rattle.commands.specs.Commands.{progress, commands}
+use Rattle.script.specs.Run.{whole, run}
 use Rattle.promises.specs.Promises.{Untangled, atEdge, ofFace, RingUsed, EndFits, InRange, collapse, flip, splitBorder, splitInner, splitFace, Safe, InsideRun}
 use Rattle.promises.proofs.Promises.{after-every}
 

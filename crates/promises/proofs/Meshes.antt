@@ -14,15 +14,19 @@ use Rattle.edit_plans.specs.Plans.{around}
 use Rattle.edit_inner.specs.Collapse.{winged, either, collapseVertices, collapseOpposites, collapseMarks, collapseCorners, collapseEdge}
 use Rattle.edge_collapse.specs.EdgeCollapse.{meetsBorder, neighbours, timesIn, commonIn, affectsBoundary, unsafe}
 use Rattle.command.specs.declared.Edit.the-variants.{Collapse, Flip, SplitEdge, SplitFace}
-use Rattle.command.specs.Answers.{first, targeted, roomFor, collapseAnswer, flipAnswer, splitEdgeAnswer, splitFaceAnswer, answer}
+use Rattle.command.specs.Checks.{first, targeted, roomFor}
+use Rattle.answers.specs.Answers.{collapseAnswer, flipAnswer, splitEdgeAnswer, splitFaceAnswer, answer}
 use Rattle.command.specs.Decode.{decoded, commandAt}
-use Rattle.command.specs.Step.{effect, step}
+use Rattle.answers.specs.Step.{effect, step}
 use Rattle.kinds.specs.Kinds.{testAt, ruleOf, span, slotOf}
-use Rattle.rules.specs.Tests.{swing, near, countsTest, markTest, faceTest, vertexTest, differTest, backTest, matesTest, oppositeTest}
+use Rattle.near.specs.Near.{swing, near}
+use Rattle.rules.specs.Tests.{countsTest, markTest, faceTest, vertexTest, differTest, backTest, matesTest, oppositeTest}
 use Rattle.rules.specs.Tests.{cornerTest, fanTest, pointTest, holds}
 use Rattle.checker.specs.First.{firstFrom, firstBad}
 use Rattle.checker.specs.Order.{firstOf, clean, ruled, verdictOf}
-use Rattle.script.specs.Run.{progress, commands, whole, fits, run}
+use Rattle.command.specs.Checks.{fits}
+use Rattle.commands.specs.Commands.{progress, commands}
+use Rattle.script.specs.Run.{whole, run}
 
 -- the origin
 abbrev origin : Point

@@ -14,9 +14,10 @@ use Rattle.edge_collapse.specs.EdgeCollapse.{affectsBoundary}
 use Rattle.edge_collapse.proofs.Paper.{inner}
 use Rattle.command.specs.declared.Edit.{Edit}
 use Rattle.command.specs.declared.Edit.the-variants.{Collapse, Flip, SplitEdge, SplitFace, Unknown}
-use Rattle.command.specs.Answers.{first, when, targeted, roomFor, cornerTarget, faceTarget, notFinite, noRoom, noOpposite, sameWings, collapseAnswer, flipAnswer, splitEdgeAnswer, splitFaceAnswer, answer}
+use Rattle.command.specs.Checks.{first, when, targeted, roomFor}
+use Rattle.answers.specs.Answers.{cornerTarget, faceTarget, notFinite, noRoom, noOpposite, sameWings, collapseAnswer, flipAnswer, splitEdgeAnswer, splitFaceAnswer, answer}
 use Rattle.command.proofs.Chain.{first-same, when-false}
-use Rattle.command.proofs.Passed.{corner-live, opposite-there}
+use Rattle.answers.proofs.Passed.{corner-live, opposite-there}
 use Rattle.promises.specs.Rooms.{Roomier}
 use Rattle.promises.proofs.SameReads.{same-opposite, same-vertex, same-mark, affects-same, unsafe-same}
 

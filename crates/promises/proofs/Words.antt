@@ -15,9 +15,10 @@ use Rattle.table.specs.Table.{Table, cornerRoom, vertexRoom, vertex, opposite}
 use Rattle.edge_collapse.specs.EdgeCollapse.{affectsBoundary, unsafe}
 use Rattle.command.specs.declared.Edit.the-variants.{Collapse, Flip, SplitEdge, SplitFace, Unknown}
 use Rattle.command.specs.Decode.{commandAt}
-use Rattle.command.specs.Answers.{first, when, targeted, roomFor, cornerTarget, notFinite, sameWings, collapseAnswer, flipAnswer, splitEdgeAnswer, splitFaceAnswer, answer}
-use Rattle.command.specs.Step.{step}
-use Rattle.script.specs.Run.{commands}
+use Rattle.command.specs.Checks.{first, when, targeted, roomFor}
+use Rattle.answers.specs.Answers.{cornerTarget, notFinite, sameWings, collapseAnswer, flipAnswer, splitEdgeAnswer, splitFaceAnswer, answer}
+use Rattle.answers.specs.Step.{step}
+use Rattle.commands.specs.Commands.{commands}
 use Rattle.promises.specs.Promises.{EachWord, OtherWords, AtMost14}
 
 -- commands from j on leave the words before j, and those after the last command

@@ -28,10 +28,11 @@ use Rattle.keeps.specs.Keeps.{Kept, AroundUsed, TriangleUsed}
 use Rattle.command.specs.declared.Edit.{Edit}
 use Rattle.command.specs.declared.Edit.the-variants.{Collapse, Flip, SplitEdge, SplitFace}
 use Rattle.command.specs.Decode.{commandAt}
-use Rattle.command.specs.Answers.{answer}
-use Rattle.command.specs.Step.{step}
-use Rattle.step.specs.Stepped.{Stepped}
-use Rattle.script.specs.Run.{commands, run, RunOutcome}
+use Rattle.answers.specs.Answers.{answer}
+use Rattle.answers.specs.Step.{step}
+use Rattle.effects.specs.Stepped.{Stepped}
+use Rattle.commands.specs.Commands.{commands}
+use Rattle.script.specs.Run.{run, RunOutcome}
 
 -- Demand 3, after every command: whatever the script and the answer words, after the first k commands the table is well-formed, V−E+F is what
 -- it was, and the lent parts have their lengths

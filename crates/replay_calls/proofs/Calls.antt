@@ -7,7 +7,8 @@ use lib.Ieee.{Float}
 use lib.ListN.{drop, replicate}
 use Rattle.table.specs.Table.{Table}
 use Rattle.build.specs.Build.{built, build}
-use Rattle.script.specs.Run.{whole, progress, run}
+use Rattle.commands.specs.Commands.{progress}
+use Rattle.script.specs.Run.{whole, run}
 use Rattle.records.specs.Same.{oneUnless}
 use Rattle.records.specs.Words.{tabled, numberNo}
 use Rattle.replay_changes.specs.Change.{played}

@@ -1,4 +1,3 @@
 -- Laws of the tests: by the arms of their code, and read as the rules.
 pub mod Arms
-pub mod Walks
 pub mod Rules

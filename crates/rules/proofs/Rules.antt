@@ -12,8 +12,9 @@ use Rattle.table.specs.Slots.{markAt}
 use Rattle.table.specs.Table.{Table, cornerRoom, vertexRoom, vertex, opposite, corner, point, live, Live, LiveVertex}
 use Rattle.table.specs.Rules.{Mate}
 use Rattle.table.proofs.Lives.{live-true, true-live}
+use Rattle.near.specs.Near.{near}
 use Rattle.rules.specs.Tests.{countsTest, markTest, faceTest, vertexTest, differTest, backTest, matesTest, oppositeTest}
-use Rattle.rules.specs.Tests.{cornerTest, near, fanTest, pointTest, holds}
+use Rattle.rules.specs.Tests.{cornerTest, fanTest, pointTest, holds}
 use Rattle.kinds.specs.declared.Test.{Test}
 use Rattle.kinds.specs.declared.Test.the-variants.{Counts, CornerMark, FaceMark, VertexMark, CornerVertex}
 use Rattle.kinds.specs.declared.Test.the-variants.{FaceVertex, Opposite, VertexCorner, CornerFan, Finite}

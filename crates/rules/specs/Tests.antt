@@ -1,15 +1,16 @@
 -- Document 01, "Well-formed": R1 to R6 as tests of one slot.
-use Prim.Native.Nat.{ℕ, zero, suc, _%_, _<_}
+use Prim.Native.Nat.{ℕ, _%_, _<_}
 use mathlib.Core.Path.{_≡_}
 use mathlib.Core.List.{List}
-use mathlib.Core.Bool.{Bool, true, false, cond, _&&_, _||_, not}
-use lib.Dec.{ltb, leb, eqb}
+use mathlib.Core.Bool.{Bool, true, _&&_, not}
+use lib.Dec.{leb, eqb}
 use lib.Ieee.{Float}
 use Rattle.flag.specs.Words.{implies}
-use Rattle.corner.specs.Corner.{absent, next, previous, turn}
+use Rattle.corner.specs.Corner.{absent, next, previous}
 use Rattle.vertex.specs.Point.{finitePoint}
 use Rattle.table.specs.Slots.{vertexAt, oppositeAt, cornerAt, markAt, pointAt}
 use Rattle.table.specs.Table.{Table, cornerRoom, vertexRoom, live}
+use Rattle.near.specs.Near.{near}
 use Rattle.kinds.specs.Kinds.{span}
 use Rattle.kinds.specs.declared.Test.{Test}
 use Rattle.kinds.specs.declared.Test.the-variants.{Counts, CornerMark, FaceMark, VertexMark, CornerVertex}
@@ -51,23 +52,6 @@ oppositeTest cv co cm nc c =
 unfoldable pub cornerTest : (cv cm vc vm : List ℕ) (nv nc : ℕ) → ℕ → Bool
 cornerTest cv cm vc vm nv nc v =
     implies (live vm nv v) (live cm nc (cornerAt vc v) && eqb (vertexAt cv (cornerAt vc v)) v)
-
--- "swing left is next, opposite, next; swing right is previous, opposite, previous", absent past a border
-abbrev pub onto : Bool → ℕ → ℕ
-onto left o = cond (eqb o absent) absent (turn left o)
-
-unfoldable pub swing : Bool → List ℕ → ℕ → ℕ
-swing left co c = onto left (oppositeAt co (turn left c))
-
--- x is s, or comes before c
-abbrev pub hits : ℕ → ℕ → ℕ → Bool
-hits s c x = eqb x s || ltb x c
-
--- two walks at once, a to the left and b to the right, till one of them hits
-unfoldable pub near : List ℕ → ℕ → ℕ → ℕ → ℕ → ℕ → Bool
-near co s c zero a b = false
-near co s c (suc room) a b =
-    cond (hits s c a) true (cond (hits s c b) true (near co s c room (swing true co a) (swing false co b)))
 
 -- "... and every live corner of the vertex lies in the fan of that one." From c, swings lead to the vertex's corner, or to a corner
 -- before c, which has passed this test already.

@@ -1,26 +1,19 @@
 -- The arms of a run. Assumes nothing.
-use Prim.Native.Nat.{ℕ, _/_, _%_}
+use Prim.Native.Nat.{ℕ, _/_}
 use mathlib.Core.Path.{_≡_, sym, ap, _∙_}
 use mathlib.Core.Bool.{Bool, true, false}
 use mathlib.Core.List.{List}
 use native.Mathlib.Omega.{arith}
 use borrow.Author.Tests.{eq-eqb, ne-eqb}
-use lib.Dec.{leb}
 use lib.ListN.{length}
 use Rattle.table.specs.Table.{Table, shaped}
 use Rattle.checker.specs.declared.Verdict.{Verdict}
 use Rattle.checker.specs.Order.{verdictOf}
 use Rattle.checker.proofs.Judge.{verdict-sound}
-use Rattle.step.specs.Stepped.{Good}
-use Rattle.script.specs.Run.{fits, run, Completed, RunOutcome}
-
-pub fits-by : (words answers : ℕ) (b : Bool) → b ≡ leb (words / 5) answers → words % 5 ≡ 0 → b ≡ fits words answers
-unfolding fits
-fits-by words answers b e h = rw (eq-eqb _ _ h) e
-
-pub fits-not : (words answers : ℕ) → (words % 5 ≡ 0 → ⊥) → false ≡ fits words answers
-unfolding fits
-fits-not words answers h = rw (ne-eqb _ _ h)
+use Rattle.effects.specs.Stepped.{Good}
+use Rattle.command.specs.Checks.{fits}
+use Rattle.commands.specs.Commands.{Completed}
+use Rattle.script.specs.Run.{run, RunOutcome}
 
 no-one : (a : ℕ) {A : Type 0} → a ≡ 0 → (a ≡ 0 → ⊥) → A
 no-one a e n = absurd (n e)

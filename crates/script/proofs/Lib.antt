@@ -1,3 +1,2 @@
 -- Laws of a run.
-pub mod Loop
 pub mod Arms

@@ -1,2 +1,2 @@
--- The arms of a command.
+-- A command by its kind.
 pub mod Arms

@@ -13,7 +13,7 @@ use corner::Corner;
 use lists::Kind;
 use lists::Ring;
 use lists::refused;
-use lists::ring_from;
+use one_walk::ring_from;
 use table::Counts;
 use table::at;
 use table::corner_of;

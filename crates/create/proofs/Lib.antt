@@ -1,0 +1,2 @@
+-- Laws of the blank table.
+pub mod Blanking

@@ -1,0 +1,2 @@
+-- The arms of a command.
+pub mod Arms

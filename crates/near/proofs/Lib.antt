@@ -1,0 +1,3 @@
+-- Laws of R5's walks.
+pub mod Turns
+pub mod Walks

@@ -1,0 +1,2 @@
+-- R5's walks.
+pub mod Near

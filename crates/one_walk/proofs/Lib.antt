@@ -1,0 +1,2 @@
+-- Laws of a ring that is written in one walk.
+pub mod Short

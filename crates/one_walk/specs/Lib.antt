@@ -1,0 +1,2 @@
+-- A ring that is written in one walk.
+pub mod Tried
