@@ -12,7 +12,7 @@ first-bad-requires c κs = search needs
 
 returns : tie.Need-returns
 unfolding firstOf
-returns c = cc
+returns c = rw (c .first-bad .ensures, c .before .span .ensures)
 
 pub first-of-spec : {M : Type 1} → statement M
 first-of-spec = tie.close (tie.spec span-requires first-bad-requires returns)

@@ -33,7 +33,7 @@ first-requires c κs = search needs
 
 returns : tie.Need-returns
 unfolding ended
-returns c = cc
+returns c = rw (c .first .ensures, c .before .when2 .ensures, c .before .before .when .ensures)
 
 pub end-spec : {M : Type 1} → statement M
 end-spec =

@@ -31,7 +31,7 @@ first-requires : tie.Need-first-requires
 first-requires c κs = search needs
 
 returns : tie.Need-returns
-returns c = cc
+returns c = rw (c .first .ensures, c .before .at2 .ensures, c .before .before .past .ensures, c .before .before .before .at .ensures)
 
 pub face-words-spec : {M : Type 1} → statement M
 face-words-spec =

@@ -54,7 +54,7 @@ first-requires-4 c κs = search needs
 
 returns : tie.Need-returns
 unfolding faultOf
-returns c = cc
+returns c = rw (c .first4 .ensures, c .before .first3 .ensures, c .before .before .when3 .ensures, c .before .before .before .when2 .ensures, c .before .before .before .before .at4 .ensures, c .before .before .before .before .before .first2 .ensures, c .before .before .before .before .before .before .when .ensures, c .before .before .before .before .before .before .before .first .ensures, c .before .before .before .before .before .before .before .before .end .ensures, c .before .before .before .before .before .before .before .before .before .limit .ensures, c .before .before .before .before .before .before .before .before .before .before .at3 .ensures, c .before .before .before .before .before .before .before .before .before .before .before .at2 .ensures, c .before .before .before .before .before .before .before .before .before .before .before .before .at .ensures)
 
 pub fault-spec : {M : Type 1} → statement M
 fault-spec =

@@ -21,7 +21,7 @@ first-requires-2 c κs = search needs
 
 returns : tie.Need-returns
 unfolding limited
-returns c = cc
+returns c = rw (c .first2 .ensures, c .before .when3 .ensures, c .before .before .first .ensures, c .before .before .before .when2 .ensures, c .before .before .before .before .when .ensures)
 
 pub limit-spec : {M : Type 1} → statement M
 limit-spec =

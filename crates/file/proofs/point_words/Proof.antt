@@ -19,7 +19,7 @@ first-requires : tie.Need-first-requires
 first-requires c κs = search needs
 
 returns : tie.Need-returns
-returns c = cc
+returns c = rw (c .first .ensures, c .before .at .ensures, c .before .before .past .ensures)
 
 pub point-words-spec : {M : Type 1} → statement M
 point-words-spec =

@@ -43,7 +43,7 @@ first-requires : tie.Need-first-requires
 first-requires c κs = search needs
 
 returns : tie.Need-returns
-returns c = cc
+returns c = rw (c .first .ensures, c .before .at3 .ensures, c .before .before .past .ensures, c .before .before .before .at2 .ensures, c .before .before .before .before .at .ensures)
 
 pub script-words-spec : {M : Type 1} → statement M
 script-words-spec =

@@ -15,7 +15,7 @@ onto-requires c κs = search needs
 
 returns : tie.Need-returns
 unfolding swing
-returns c = cc
+returns c = rw (c .onto .ensures, c .before .at .ensures, c .before .before .turn-index .ensures)
 
 pub swing-spec : {M : Type 1} → statement M
 swing-spec = tie.close (tie.spec turn-index-requires at-requires onto-requires returns)

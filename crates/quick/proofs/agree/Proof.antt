@@ -19,7 +19,7 @@ both-requires : tie.Need-both-requires
 both-requires c κs = search needs
 
 returns : tie.Need-returns
-returns c = cc
+returns c = rw (c .both .ensures, c .before .at2 .ensures, c .before .before .at .ensures)
 
 pub agree-spec : {M : Type 1} → statement M
 agree-spec = tie.close (tie.spec add-at at-requires add-at-2 at-requires-2 both-requires returns)

@@ -19,7 +19,7 @@ both-requires : tie.Need-both-requires
 both-requires c κs = search needs
 
 returns : tie.Need-returns
-returns c = cc
+returns c = rw (c .both .ensures, c .before .is-live .ensures, c .before .before .before .before .at .ensures)
 
 pub paired-spec : {M : Type 1} → statement M
 paired-spec =

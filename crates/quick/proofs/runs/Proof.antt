@@ -19,7 +19,7 @@ both-requires : tie.Need-both-requires
 both-requires c κs = search needs
 
 returns : tie.Need-returns
-returns c = cc
+returns c = rw (c .both .ensures, c .before .at2 .ensures, c .before .before .previous-index .ensures, c .before .before .before .at .ensures, c .before .before .before .before .next-index .ensures)
 
 pub runs-spec : {M : Type 1} → statement M
 runs-spec =

@@ -17,7 +17,7 @@ same-length c = search needs
 
 returns : tie.Need-returns
 unfolding bumped
-returns c = cc
+returns c = rw (c .before .before .put .ensures, c .before .before .before .before .up .ensures, c .before .before .before .before .before .at .ensures)
 
 pub bump-spec : {M : Type 1} → statement M
 bump-spec = tie.close (tie.spec at-requires up-requires put-requires same-length returns)

@@ -20,7 +20,7 @@ bits-of-requires-2 c κs = search needs
 
 returns : tie.Need-returns
 unfolding sameNumber
-returns c = cc
+returns c = rw (c .bits-of2 .ensures, c .before .bits-of .ensures, c .before .before .float-of .ensures, c .before .before .before .at .ensures, c .before .before .before .before .float-at .ensures)
 
 pub same-number-spec : {M : Type 1} → statement M
 same-number-spec =

@@ -11,7 +11,7 @@ at-requires-2 c κs = search needs
 
 returns : tie.Need-returns
 unfolding sameWord
-returns c = cc
+returns c = rw (c .at2 .ensures, c .before .at .ensures)
 
 pub same-word-spec : {M : Type 1} → statement M
 same-word-spec = tie.close (tie.spec at-requires at-requires-2 returns)

@@ -11,7 +11,7 @@ both-requires c κs = search needs
 
 returns : tie.Need-returns
 unfolding putRight
-returns c = cc
+returns c = rw (c .both .ensures, c .before .at .ensures)
 
 pub put-right-spec : {M : Type 1} → statement M
 put-right-spec = tie.close (tie.spec at-requires both-requires returns)

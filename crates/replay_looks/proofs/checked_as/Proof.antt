@@ -17,7 +17,7 @@ three-are-requires c κs = search needs
 
 returns : tie.Need-returns
 unfolding checkedAs
-returns c = cc
+returns c = rw (c .three-are .ensures)
 
 pub checked-as-spec : {M : Type 1} → statement M
 checked-as-spec =

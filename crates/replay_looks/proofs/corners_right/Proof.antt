@@ -26,7 +26,7 @@ both-requires-2 c κs = search needs
 
 returns : tie.Need-returns
 unfolding cornersRight
-returns c = cc
+returns c = rw (c .both2 .ensures, c .before .part-right3 .ensures, c .before .before .both .ensures, c .before .before .before .part-right2 .ensures, c .before .before .before .before .part-right .ensures, c .before .before .before .before .before .next-part2 .ensures, c .before .before .before .before .before .before .next-part .ensures)
 
 pub corners-right-spec : {M : Type 1} → statement M
 corners-right-spec =

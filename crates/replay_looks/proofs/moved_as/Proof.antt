@@ -17,7 +17,7 @@ three-are-requires c κs = search needs
 
 returns : tie.Need-returns
 unfolding movedAs
-returns c = cc
+returns c = rw (c .three-are .ensures, c .before .before .bit .ensures)
 
 pub moved-as-spec : {M : Type 1} → statement M
 moved-as-spec =

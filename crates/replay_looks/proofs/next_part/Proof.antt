@@ -17,7 +17,7 @@ past-requires c κs = search needs
 
 returns : tie.Need-returns
 unfolding nextPart
-returns c = cc
+returns c = rw (c .past .ensures, c .before .at .ensures)
 
 pub next-part-spec : {M : Type 1} → statement M
 next-part-spec = tie.close (tie.spec at-requires cast-past add-past past-requires returns)

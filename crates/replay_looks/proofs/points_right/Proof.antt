@@ -29,7 +29,7 @@ both-requires c κs = search needs
 
 returns : tie.Need-returns
 unfolding pointsRight
-returns c = cc
+returns c = rw (c .both .ensures, c .before .hold-numbers .ensures, c .before .before .at2 .ensures, c .before .before .before .whole-part .ensures, c .before .before .before .before .first .ensures, c .before .before .before .before .before .at .ensures, c .before .before .before .before .before .before .past .ensures)
 
 pub points-right-spec : {M : Type 1} → statement M
 points-right-spec =

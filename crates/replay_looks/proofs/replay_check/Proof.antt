@@ -17,7 +17,7 @@ one-unless-requires c κs = search needs
 
 returns : tie.Need-returns
 unfolding checkRight
-returns c = cc
+returns c = rw (c .one-unless .ensures .0, c .before .both .ensures, c .before .before .checked-as .ensures, c .before .before .before .check .ensures)
 
 pub replay-check-spec : {M : Type 1} → statement M
 replay-check-spec =

@@ -26,7 +26,7 @@ one-unless-requires c κs = search needs
 
 returns : tie.Need-returns
 unfolding moveRight
-returns c = cc
+returns c = rw (c .one-unless .ensures .0, c .before .both2 .ensures, c .before .before .both .ensures, c .before .before .before .moved-as .ensures, c .before .before .before .before .move-of .ensures, c .before .before .before .before .before .at2 .ensures, c .before .before .before .before .before .before .at .ensures)
 
 pub replay-move-spec : {M : Type 1} → statement M
 replay-move-spec =

@@ -26,7 +26,7 @@ one-unless-requires c κs = search needs
 
 returns : tie.Need-returns
 unfolding slotsRight
-returns c = cc
+returns c = rw (c .one-unless .ensures .0, c .before .both .ensures, c .before .before .vertices-right .ensures, c .before .before .before .corners-right .ensures, c .before .before .before .before .next-part3 .ensures, c .before .before .before .before .before .next-part2 .ensures, c .before .before .before .before .before .before .next-part .ensures)
 
 pub replay-slots-spec : {M : Type 1} → statement M
 replay-slots-spec =

@@ -32,7 +32,7 @@ both-requires-3 c κs = search needs
 
 returns : tie.Need-returns
 unfolding ringAs
-returns c = cc
+returns c = rw (c .both3 .ensures, c .before .both2 .ensures, c .before .before .ringed-as .ensures, c .before .before .before .both .ensures, c .before .before .before .before .word-is .ensures, c .before .before .before .before .before .at2 .ensures, c .before .before .before .before .before .before .holds .ensures, c .before .before .before .before .before .before .before .at .ensures, c .before .before .before .before .before .before .before .before .past .ensures)
 
 pub ring-as-spec : {M : Type 1} → statement M
 ring-as-spec =

@@ -17,7 +17,7 @@ three-are-requires c κs = search needs
 
 returns : tie.Need-returns
 unfolding ringedAs
-returns c = cc
+returns c = rw (c .three-are .ensures)
 
 pub ringed-as-spec : {M : Type 1} → statement M
 ringed-as-spec =

@@ -17,7 +17,7 @@ both-requires c κs = search needs
 
 returns : tie.Need-returns
 unfolding threeAre
-returns c = cc
+returns c = rw (c .both .ensures, c .before .word-is .ensures, c .before .before .two-are .ensures)
 
 pub three-are-spec : {M : Type 1} → statement M
 three-are-spec =

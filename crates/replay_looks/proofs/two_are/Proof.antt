@@ -17,7 +17,7 @@ both-requires c κs = search needs
 
 returns : tie.Need-returns
 unfolding twoAre
-returns c = cc
+returns c = rw (c .both .ensures, c .before .word-is2 .ensures, c .before .before .word-is .ensures)
 
 pub two-are-spec : {M : Type 1} → statement M
 two-are-spec =

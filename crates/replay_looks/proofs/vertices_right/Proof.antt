@@ -32,7 +32,7 @@ both-requires-3 c κs = search needs
 
 returns : tie.Need-returns
 unfolding verticesRight
-returns c = cc
+returns c = rw (c .both3 .ensures, c .before .both2 .ensures, c .before .before .points-right .ensures, c .before .before .before .both .ensures, c .before .before .before .before .part-right2 .ensures, c .before .before .before .before .before .part-right .ensures, c .before .before .before .before .before .before .next-part3 .ensures, c .before .before .before .before .before .before .before .next-part2 .ensures, c .before .before .before .before .before .before .before .before .next-part .ensures)
 
 pub vertices-right-spec : {M : Type 1} → statement M
 vertices-right-spec =

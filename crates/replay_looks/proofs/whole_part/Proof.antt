@@ -14,7 +14,7 @@ add-result c = search needs
 
 returns : tie.Need-returns
 unfolding wholePart
-returns c = cc
+returns c = rw (c .at .ensures)
 
 pub whole-part-spec : {M : Type 1} → statement M
 whole-part-spec = tie.close (tie.spec at-requires cast-result add-result returns)

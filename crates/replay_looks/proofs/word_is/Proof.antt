@@ -11,7 +11,7 @@ cast-result c = search needs
 
 returns : tie.Need-returns
 unfolding wordIs
-returns c = cc
+returns c = rw (c .at .ensures)
 
 pub word-is-spec : {M : Type 1} → statement M
 word-is-spec = tie.close (tie.spec at-requires cast-result returns)

@@ -33,7 +33,7 @@ both-requires c κs = search needs
 
 returns : tie.Need-returns
 unfolding backTest
-returns c = cc
+returns c = rw (c .both .ensures, c .before .before .before .before .before .before .before .at .ensures, c .before .before .before .before .before .before .before .before .next-index .ensures, c .before .before .before .before .before .at2 .ensures, c .before .before .before .before .before .before .previous-index .ensures, c .before .before .before .at3 .ensures, c .before .before .before .before .previous-index2 .ensures, c .before .at4 .ensures, c .before .before .next-index2 .ensures)
 
 pub back-test-spec : {M : Type 1} → statement M
 back-test-spec =

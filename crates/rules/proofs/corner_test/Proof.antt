@@ -33,7 +33,7 @@ if-so-requires c κs = search needs
 
 returns : tie.Need-returns
 unfolding cornerTest
-returns c = cc
+returns c = rw (c .if-so .ensures, c .before .before .before .before .is-live .ensures, c .before .both .ensures, c .before .before .is-live2 .ensures, c .before .before .before .before .before .before .before .at .ensures, c .before .before .before .before .before .before .before .before .before .corner-of .ensures)
 
 pub corner-test-spec : {M : Type 1} → statement M
 corner-test-spec =

@@ -27,7 +27,7 @@ if-so-requires c κs = search needs
 
 returns : tie.Need-returns
 unfolding differTest
-returns c = cc
+returns c = rw (c .if-so .ensures, c .before .before .before .before .before .is-live .ensures, c .before .before .before .at .ensures, c .before .at2 .ensures, c .before .before .next-index .ensures)
 
 pub differ-test-spec : {M : Type 1} → statement M
 differ-test-spec =

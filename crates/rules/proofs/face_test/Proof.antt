@@ -18,7 +18,7 @@ at-requires-2 c κs = search needs
 
 returns : tie.Need-returns
 unfolding faceTest
-returns c = cc
+returns c = rw (c .at2 .ensures, c .before .before .at .ensures, c .before .before .before .next-index .ensures)
 
 pub face-test-spec : {M : Type 1} → statement M
 face-test-spec = tie.close (tie.spec next-index-requires at-requires cast-at at-requires-2 returns)

@@ -1,5 +1,6 @@
 -- `rules::fan_test` meets its contract.
 use Rattle.rules.proofs.Arms.{fan-live, fan-gone}
+use mathlib.Core.Path.{sym, _∙_}
 use borrow.Author.Needs.{needs}
 use Rattle.rules.proofs.fan_test.Statement.{statement}
 use Rattle.rules.proofs.fan_test.Tie as tie
@@ -20,10 +21,13 @@ near-requires : tie.Need-near-requires
 near-requires c κs = search needs
 
 returns : tie.Need-returns
-returns c = fan-live _ _ _ _ _ _ _ (cc) (cc)
+returns c =
+    fan-live _ _ _ _ _ _ _
+    (sym (c .before .before .before .before .is-live .ensures) ∙ c .before .before .before .if1 .taken)
+    (rw (c .near .ensures, c .before .corner-of .ensures, c .before .before .vertex-of .ensures))
 
 returns-2 : tie.Need-returns-2
-returns-2 c = fan-gone _ _ _ _ _ _ (cc)
+returns-2 c = fan-gone _ _ _ _ _ _ (sym (c .before .is-live .ensures) ∙ c .if1 .left)
 
 pub fan-test-spec : {M : Type 1} → statement M
 fan-test-spec =

@@ -27,7 +27,7 @@ both-requires-2 c κs = search needs
 
 returns : tie.Need-returns
 unfolding matesTest
-returns c = cc
+returns c = rw (c .both2 .ensures, c .before .before .before .is-live .ensures, c .before .both .ensures, c .before .before .before .before .before .before .at .ensures, c .before .before .back-test .ensures)
 
 pub mates-test-spec : {M : Type 1} → statement M
 mates-test-spec =

@@ -24,7 +24,7 @@ if-so-requires-2 c κs = search needs
 
 returns : tie.Need-returns
 unfolding oppositeTest
-returns c = cc
+returns c = rw (c .if-so2 .ensures, c .before .is-live .ensures, c .before .before .before .if-so .ensures, c .before .before .before .before .mates-test .ensures, c .before .before .before .before .before .before .opposite-of .ensures)
 
 pub opposite-test-spec : {M : Type 1} → statement M
 opposite-test-spec =

@@ -24,7 +24,7 @@ if-so-requires c κs = search needs
 
 returns : tie.Need-returns
 unfolding vertexTest
-returns c = cc
+returns c = rw (c .if-so .ensures, c .before .before .before .is-live .ensures, c .before .is-live2 .ensures, c .before .before .before .before .before .vertex-of .ensures)
 
 pub vertex-test-spec : {M : Type 1} → statement M
 vertex-test-spec =

@@ -15,7 +15,7 @@ same-length : tie.Need-same-length
 same-length c = search needs
 
 returns : tie.Need-returns
-returns c = cc
+returns c = rw (c .before .before .put .ensures, c .before .before .before .before .before .before .before .put-there .ensures)
 
 pub pair-there-spec : {M : Type 1} → statement M
 pair-there-spec = tie.close (tie.spec put-there-requires cast-put put-requires same-length returns)

@@ -24,7 +24,7 @@ float-at-requires-3 : tie.Need-float-at-requires-3
 float-at-requires-3 c κs = search needs
 
 returns : tie.Need-returns
-returns c = cc
+returns c = rw (c .float-at3 .ensures, c .before .float-at2 .ensures, c .before .before .float-at .ensures)
 
 pub position-spec : {M : Type 1} → statement M
 position-spec =

@@ -12,7 +12,7 @@ same-length : tie.Need-same-length
 same-length c = search needs
 
 returns : tie.Need-returns
-returns c = cc
+returns c = rw (c .before .before .set-opposite2 .ensures, c .before .before .before .before .before .before .set-opposite .ensures)
 
 pub set-opposite-relationship-spec : {M : Type 1} → statement M
 set-opposite-relationship-spec =

@@ -27,7 +27,7 @@ same-length : tie.Need-same-length
 same-length c = search needs
 
 returns : tie.Need-returns
-returns c = cc
+returns c = rw (c .before .before .put-float3 .ensures, c .before .before .before .before .before .before .put-float2 .ensures, c .before .before .before .before .before .before .before .before .before .before .put-float .ensures)
 
 pub set-position-spec : {M : Type 1} → statement M
 set-position-spec =

@@ -18,7 +18,7 @@ both-requires c κs = search needs
 
 returns : tie.Need-returns
 unfolding bare
-returns c = cc
+returns c = rw (c .both .ensures, c .before .before .is-live .ensures, c .before .before .before .before .opposite-of .ensures)
 
 pub bare-spec : {M : Type 1} → statement M
 bare-spec =

@@ -24,7 +24,7 @@ both-requires c κs = search needs
 
 returns : tie.Need-returns
 unfolding ofKind
-returns c = cc
+returns c = rw (c .both .ensures, c .before .either .ensures, c .before .before .at2 .ensures, c .before .before .before .kind-of .ensures, c .before .before .before .before .at .ensures)
 
 pub of-kind-spec : {M : Type 1} → statement M
 of-kind-spec =

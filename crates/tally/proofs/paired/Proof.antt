@@ -18,7 +18,7 @@ both-requires c κs = search needs
 
 returns : tie.Need-returns
 unfolding paired
-returns c = cc
+returns c = rw (c .both .ensures, c .before .before .is-live .ensures, c .before .before .before .before .opposite-of .ensures)
 
 pub paired-spec : {M : Type 1} → statement M
 paired-spec =
