@@ -17,7 +17,7 @@ at-requires-2 c κs = search needs
 
 returns : tie.Need-returns
 unfolding answerFill
-returns c = cc
+returns c = rw (c .at2 .ensures, c .before .at .ensures)
 
 pub answer-fill-spec : {M : Type 1} → statement M
 answer-fill-spec = tie.close (tie.spec at-requires cast-at add-at at-requires-2 returns)

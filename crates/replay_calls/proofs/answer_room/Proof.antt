@@ -17,7 +17,7 @@ at-requires-2 c κs = search needs
 
 returns : tie.Need-returns
 unfolding answerRoom
-returns c = cc
+returns c = rw (c .at2 .ensures, c .before .at .ensures)
 
 pub answer-room-spec : {M : Type 1} → statement M
 answer-room-spec = tie.close (tie.spec at-requires cast-at add-at at-requires-2 returns)

@@ -20,7 +20,7 @@ holds-requires c κs = search needs
 
 returns : tie.Need-returns
 unfolding answersAs
-returns c = cc
+returns c = rw (c .holds .ensures, c .before .past .ensures, c .before .before .at .ensures)
 
 pub answers-as-spec : {M : Type 1} → statement M
 answers-as-spec =

@@ -26,7 +26,7 @@ both-requires c κs = search needs
 
 returns : tie.Need-returns
 unfolding answersSized
-returns c = cc
+returns c = rw (c .both .ensures, c .before .answer-room .ensures, c .before .before .at .ensures)
 
 pub answers-sized-spec : {M : Type 1} → statement M
 answers-sized-spec =

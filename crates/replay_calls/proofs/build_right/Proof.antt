@@ -23,7 +23,7 @@ both-requires-2 c κs = search needs
 
 returns : tie.Need-returns
 unfolding buildRight
-returns c = cc
+returns c = rw (c .both2 .ensures, c .before .both .ensures, c .before .before .built-as .ensures, c .before .before .before .at .ensures)
 
 pub build-right-spec : {M : Type 1} → statement M
 build-right-spec =

@@ -23,7 +23,7 @@ both-requires c κs = search needs
 
 returns : tie.Need-returns
 unfolding builtAs
-returns c = cc
+returns c = rw (c .both .ensures, c .before .two-are2 .ensures, c .before .before .before .before .two-are .ensures)
 
 pub built-as-spec : {M : Type 1} → statement M
 built-as-spec =

@@ -17,7 +17,7 @@ past-requires c κs = search needs
 
 returns : tie.Need-returns
 unfolding facesOf
-returns c = cc
+returns c = rw (c .past .ensures, c .before .at .ensures)
 
 pub faces-of-spec : {M : Type 1} → statement M
 faces-of-spec = tie.close (tie.spec at-requires cast-past add-past past-requires returns)

@@ -29,7 +29,7 @@ both-requires c κs = search needs
 
 returns : tie.Need-returns
 unfolding ranAs
-returns c = cc
+returns c = rw (c .both .ensures, c .before .two-are .ensures, c .before .before .before .before .three-are .ensures)
 
 pub ran-as-spec : {M : Type 1} → statement M
 ran-as-spec =

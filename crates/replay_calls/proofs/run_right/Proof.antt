@@ -20,7 +20,7 @@ both-requires-2 c κs = search needs
 
 returns : tie.Need-returns
 unfolding runRight
-returns c = cc
+returns c = rw (c .both2 .ensures, c .before .answers-sized .ensures, c .before .before .both .ensures, c .before .before .before .answers-as .ensures, c .before .before .before .before .ran-as .ensures)
 
 pub run-right-spec : {M : Type 1} → statement M
 run-right-spec =

@@ -17,7 +17,7 @@ first-requires c κs = search needs
 
 returns : tie.Need-returns
 unfolding scriptOf
-returns c = cc
+returns c = rw (c .first .ensures, c .before .at .ensures, c .before .before .past .ensures)
 
 pub script-of-spec : {M : Type 1} → statement M
 script-of-spec = tie.close (tie.spec past-requires at-requires cast-first first-requires returns)
