@@ -9,9 +9,6 @@ use native.Mathlib.Omega.{arith}
 use borrow.Author.Needs.{needs}
 use Rattle.lists.proofs.entry.Statement.{statement}
 use Rattle.lists.proofs.entry.Tie as tie
-use Rattle.lists.proofs.entry.Reads as reads
-use Rattle.lists.proofs.entry.Lts as lts
-use Rattle.corner.proofs.Corner.turn_index.Reads as turn-index-reads
 
 enum-told : tie.Need-enum-told
 enum-told c = search needs

@@ -6,11 +6,6 @@ use Prim.Native.Nat.{ℕ}
 use borrow.Author.Needs.{needs}
 use Rattle.lists.proofs.right_from.Statement.{statement}
 use Rattle.lists.proofs.right_from.Tie as tie
-use Rattle.lists.proofs.right_from.Reads as reads
-use Rattle.lists.proofs.right_from.Lts as lts
-use Rattle.corner.proofs.Corner.next.Reads as next-reads
-use Rattle.corner.proofs.Corner.previous_index.Reads as previous-index-reads
-use Rattle.lists.proofs.twice.Reads as twice-reads
 
 twice-requires : tie.Need-twice-requires
 twice-requires c κs = search needs

@@ -7,10 +7,6 @@ use native.Mathlib.Omega.{arith}
 use borrow.Author.Needs.{needs}
 use Rattle.lists.proofs.write_closed.Statement.{statement}
 use Rattle.lists.proofs.write_closed.Tie as tie
-use Rattle.lists.proofs.write_closed.Reads as reads
-use Rattle.lists.proofs.write_closed.Lts as lts
-use Rattle.corner.proofs.Corner.previous.Reads as previous-reads
-use Rattle.lists.proofs.write_side.Reads as write-side-reads
 
 add-n : tie.Need-add-n
 add-n c = omega (arith, was-closed _ _ _ _ _ (c .before .before .before .before .pre .1 .0) .bound)

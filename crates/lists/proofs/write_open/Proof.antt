@@ -9,12 +9,6 @@ use native.Mathlib.Omega.{arith}
 use borrow.Author.Needs.{needs}
 use Rattle.lists.proofs.write_open.Statement.{statement}
 use Rattle.lists.proofs.write_open.Tie as tie
-use Rattle.lists.proofs.write_open.Reads as reads
-use Rattle.lists.proofs.write_open.Lts as lts
-use Rattle.corner.proofs.Corner.previous.Reads as previous-reads
-use Rattle.lists.proofs.extra.Reads as extra-reads
-use Rattle.lists.proofs.right_from.Reads as right-from-reads
-use Rattle.lists.proofs.write_side.Reads as write-side-reads
 
 add-seen : tie.Need-add-seen
 add-seen c = omega (arith, was-open _ _ _ _ _ _ (c .before .before .before .before .pre .1 .0) .bound)

@@ -8,10 +8,6 @@ use borrow.Author.Needs.{needs}
 use native.Mathlib.Omega.{arith}
 use Rattle.lists.proofs.write_side.Statement.{statement}
 use Rattle.lists.proofs.write_side.Tie as tie
-use Rattle.lists.proofs.write_side.Reads as reads
-use Rattle.lists.proofs.write_side.Lts as lts
-use Rattle.corner.proofs.Corner.turn_index.Reads as turn-index-reads
-use Rattle.lists.proofs.entry.Reads as entry-reads
 
 abbrev Inv-loop : tie.InvT-loop
 Inv-loop kind left cv co o list₀ first n end at₀ i₀ list at i = Writing (entry kind cv left) left co (length cv) list₀ list first n o i at

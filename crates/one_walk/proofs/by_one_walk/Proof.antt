@@ -3,10 +3,6 @@ use Rattle.one_walk.proofs.Short.{tried-none, tried-done, tried-back}
 use borrow.Author.Needs.{needs}
 use Rattle.one_walk.proofs.by_one_walk.Statement.{statement}
 use Rattle.one_walk.proofs.by_one_walk.Tie as tie
-use Rattle.one_walk.proofs.by_one_walk.Reads as reads
-use Rattle.one_walk.proofs.by_one_walk.Lts as lts
-use Rattle.one_walk.proofs.copy16.Reads as copy16-reads
-use Rattle.one_walk.proofs.write_short_as.Reads as write-short-as-reads
 
 returns : tie.Need-returns
 returns c = tried-none _ _ _ _

@@ -8,8 +8,6 @@ use borrow.Author.Needs.{needs}
 use native.Mathlib.Omega.{arith}
 use Rattle.one_walk.proofs.copy16.Statement.{statement}
 use Rattle.one_walk.proofs.copy16.Tie as tie
-use Rattle.one_walk.proofs.copy16.Reads as reads
-use Rattle.one_walk.proofs.copy16.Lts as lts
 
 abbrev Inv-loop : tie.InvT-loop
 Inv-loop from to₀ i₀ to i = (i ≤ 16) × (length to ≡ length to₀) × (to ≡ take i from ++ drop i to₀)

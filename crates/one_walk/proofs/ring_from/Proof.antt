@@ -3,10 +3,6 @@ use Rattle.one_walk.proofs.Short.{tried-else}
 use borrow.Author.Needs.{needs}
 use Rattle.one_walk.proofs.ring_from.Statement.{statement}
 use Rattle.one_walk.proofs.ring_from.Tie as tie
-use Rattle.one_walk.proofs.ring_from.Reads as reads
-use Rattle.one_walk.proofs.ring_from.Lts as lts
-use Rattle.one_walk.proofs.by_one_walk.Reads as by-one-walk-reads
-use Rattle.lists.proofs.by_two_walks.Reads as by-two-walks-reads
 
 by-one-walk-requires : tie.Need-by-one-walk-requires
 by-one-walk-requires c κs = search needs

@@ -12,14 +12,6 @@ use borrow.Author.Needs.{needs}
 use native.Mathlib.Omega.{arith}
 use Rattle.one_walk.proofs.write_short.Statement.{statement}
 use Rattle.one_walk.proofs.write_short.Tie as tie
-use Rattle.one_walk.proofs.write_short.Reads as reads
-use Rattle.one_walk.proofs.write_short.Lts as lts
-use Rattle.corner.proofs.Corner.previous.Reads as previous-reads
-use Rattle.visits.proofs.all_live.Reads as all-live-reads
-use Rattle.lists.proofs.entry.Reads as entry-reads
-use Rattle.visits.proofs.onward.Reads as onward-reads
-use Rattle.table.proofs.at_there.Reads as at-there-reads
-use Rattle.visits.proofs.used_slots.Reads as used-slots-reads
 
 abbrev Inv-loop : tie.InvT-loop
 Inv-loop kind cv co cm used list₀ last most o₀ i₀ list o i = (o ≤ absent) × Shortly kind cv co cm used (last .0) list₀ list i o

@@ -2,9 +2,6 @@
 use borrow.Author.Needs.{needs}
 use Rattle.one_walk.proofs.write_short_as.Statement.{statement}
 use Rattle.one_walk.proofs.write_short_as.Tie as tie
-use Rattle.one_walk.proofs.write_short_as.Reads as reads
-use Rattle.one_walk.proofs.write_short_as.Lts as lts
-use Rattle.one_walk.proofs.write_short.Reads as write-short-reads
 
 enum-told : tie.Need-enum-told
 enum-told c = search needs

@@ -3,11 +3,6 @@ use Rattle.traversal.proofs.Answers.{begun-walked, begun-refused}
 use borrow.Author.Needs.{needs}
 use Rattle.traversal.proofs.ring_bounding_edges.Statement.{statement}
 use Rattle.traversal.proofs.ring_bounding_edges.Tie as tie
-use Rattle.traversal.proofs.ring_bounding_edges.Reads as reads
-use Rattle.traversal.proofs.ring_bounding_edges.Lts as lts
-use Rattle.lists.proofs.refused.Reads as refused-reads
-use Rattle.one_walk.proofs.ring_from.Reads as ring-from-reads
-use Rattle.traversal.proofs.start_of.Reads as start-of-reads
 
 start-of-requires : tie.Need-start-of-requires
 start-of-requires c κs = search needs

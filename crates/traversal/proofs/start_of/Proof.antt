@@ -6,13 +6,6 @@ use native.Mathlib.Omega.{arith}
 use borrow.Author.Needs.{needs}
 use Rattle.traversal.proofs.start_of.Statement.{statement}
 use Rattle.traversal.proofs.start_of.Tie as tie
-use Rattle.traversal.proofs.start_of.Reads as reads
-use Rattle.traversal.proofs.start_of.Lts as lts
-use Rattle.table.proofs.at.Reads as at-reads
-use Rattle.table.proofs.corner_of.Reads as corner-of-reads
-use Rattle.table.proofs.is_shaped.Reads as is-shaped-reads
-use Rattle.traversal.proofs.stopped.Reads as stopped-reads
-use Rattle.visits.proofs.used_slots.Reads as used-slots-reads
 
 is-shaped-requires : tie.Need-is-shaped-requires
 is-shaped-requires c κs = search needs

@@ -3,9 +3,6 @@ use Rattle.visits.proofs.Steps.{face-marks, face-out}
 use borrow.Author.Needs.{needs}
 use Rattle.visits.proofs.all_live.Statement.{statement}
 use Rattle.visits.proofs.all_live.Tie as tie
-use Rattle.visits.proofs.all_live.Reads as reads
-use Rattle.visits.proofs.all_live.Lts as lts
-use Rattle.visits.proofs.unmarked.Reads as unmarked-reads
 
 add-if1 : tie.Need-add-if1
 add-if1 c = search needs

@@ -13,13 +13,6 @@ use borrow.Author.Needs.{needs}
 use native.Mathlib.Omega.{arith}
 use Rattle.visits.proofs.count_side.Statement.{statement}
 use Rattle.visits.proofs.count_side.Tie as tie
-use Rattle.visits.proofs.count_side.Reads as reads
-use Rattle.visits.proofs.count_side.Lts as lts
-use Rattle.corner.proofs.Corner.turn_index.Reads as turn-index-reads
-use Rattle.visits.proofs.all_live.Reads as all-live-reads
-use Rattle.visits.proofs.end_at.Reads as end-at-reads
-use Rattle.visits.proofs.last_crossed.Reads as last-crossed-reads
-use Rattle.visits.proofs.onward.Reads as onward-reads
 
 abbrev Inv-loop : tie.InvT-loop
 Inv-loop left co cm used room last via₀ rest₀ via rest =

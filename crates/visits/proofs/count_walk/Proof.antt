@@ -9,10 +9,6 @@ use native.Mathlib.Omega.{arith}
 use borrow.Author.Needs.{needs}
 use Rattle.visits.proofs.count_walk.Statement.{statement}
 use Rattle.visits.proofs.count_walk.Tie as tie
-use Rattle.visits.proofs.count_walk.Reads as reads
-use Rattle.visits.proofs.count_walk.Lts as lts
-use Rattle.visits.proofs.all_live.Reads as all-live-reads
-use Rattle.visits.proofs.count_side.Reads as count-side-reads
 
 cast-all-live : tie.Need-cast-all-live
 cast-all-live c = search needs

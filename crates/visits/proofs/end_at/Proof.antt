@@ -2,8 +2,6 @@
 use borrow.Author.Tests.{eq-eqb, ne-eqb}
 use Rattle.visits.proofs.end_at.Statement.{statement}
 use Rattle.visits.proofs.end_at.Tie as tie
-use Rattle.visits.proofs.end_at.Reads as reads
-use Rattle.visits.proofs.end_at.Lts as lts
 
 returns : tie.Need-returns
 returns c = rw (eq-eqb _ _ (c .if1 .taken))

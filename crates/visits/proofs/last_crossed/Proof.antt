@@ -3,9 +3,6 @@ use Rattle.visits.specs.Walk.{lastCrossed}
 use borrow.Author.Needs.{needs}
 use Rattle.visits.proofs.last_crossed.Statement.{statement}
 use Rattle.visits.proofs.last_crossed.Tie as tie
-use Rattle.visits.proofs.last_crossed.Reads as reads
-use Rattle.visits.proofs.last_crossed.Lts as lts
-use Rattle.corner.proofs.Corner.previous.Reads as previous-reads
 
 previous-requires : tie.Need-previous-requires
 previous-requires c κs = search needs

@@ -3,8 +3,6 @@ use Rattle.visits.proofs.Steps.{onward-first, onward-before, onward-las
 use borrow.Author.Needs.{needs}
 use Rattle.visits.proofs.onward.Statement.{statement}
 use Rattle.visits.proofs.onward.Tie as tie
-use Rattle.visits.proofs.onward.Reads as reads
-use Rattle.visits.proofs.onward.Lts as lts
 
 add-result : tie.Need-add-result
 add-result c = search needs

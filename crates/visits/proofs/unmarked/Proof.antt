@@ -4,8 +4,6 @@ use mathlib.Core.Path.{refl}
 use borrow.Author.Needs.{needs}
 use Rattle.visits.proofs.unmarked.Statement.{statement}
 use Rattle.visits.proofs.unmarked.Tie as tie
-use Rattle.visits.proofs.unmarked.Reads as reads
-use Rattle.visits.proofs.unmarked.Lts as lts
 
 at-there-requires : tie.Need-at-there-requires
 at-there-requires c κs = search needs
