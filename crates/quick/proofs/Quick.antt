@@ -1,25 +1,40 @@
 -- The quick pass: what its answers say of the tests of R1 to R4. Assumes nothing.
 use Prim.Native.Nat.{ℕ, zero, suc, _+_, _%_, _≤_, _<_}
-use mathlib.Core.Path.{_≡_, sym, subst, _∙_}
+use mathlib.Core.Path.{_≡_, refl, sym, subst, _∙_}
 use mathlib.Core.List.{List}
-use mathlib.Core.Bool.{Bool, true, _&&_, not}
+use mathlib.Core.Bool.{Bool, true, false, _&&_, not}
 use native.Mathlib.Omega.{arith}
 use native.Mathlib.Decide.{ℕ-discrete, decLt}
-use borrow.Author.Tests.{eq-eqb, eqb-true, le-leb}
+use borrow.Author.Tests.{eq-eqb, eqb-true, le-leb, leb-true}
 use lib.Dec.{leb, eqb}
 use lib.Ieee.{Float}
 use lib.ListN.{length}
 use Rattle.flag.proofs.Words.{and-intro, and-left, and-right, implies-intro, not-eqb, eqb-not}
 use Rattle.corner.specs.Corner.{absent, next, previous}
-use Rattle.corner.proofs.Turns.{next-first, next-second, next-last, previous-first, previous-second, previous-last}
+use Rattle.corner.proofs.Turns.{next-first, next-second, next-last, previous-first, previous-second, previous-last, next-below, previous-below}
 use Rattle.table.specs.Slots.{vertexAt, oppositeAt, markAt}
 use Rattle.table.specs.Table.{table, live}
-use Rattle.table.proofs.Lives.{live-true}
+use Rattle.table.proofs.Lives.{live-true, live-from, not-live}
 use Rattle.kinds.specs.Kinds.{testAt, span}
 use Rattle.rules.specs.Tests.{countsTest, markTest, faceTest, vertexTest, differTest, backTest, matesTest, oppositeTest, holds, AllHold}
-use Rattle.quick.specs.Fits.{CornerFits, Fits}
+use Rattle.quick.specs.Fits.{There, CornerFits, Fits}
 
 -- ---- one corner
+
+module _ (co cm : List ℕ) (nc c o : ℕ) where
+  pub paired-by : (m own : ℕ) (r : Bool) → o < nc → own ≡ oppositeAt co o → m ≡ markAt cm o → r ≡ (eqb m 0 && eqb own c)
+      → r ≡ (live cm nc o && eqb (oppositeAt co o) c)
+  paired-by m own r l e f h = rw (← (live-from cm nc o (eqb (markAt cm o) 0) refl l), ← e, ← f) h
+
+  -- its own face is there too
+  pub sides-there : (cv : List ℕ) (p : Bool) → There cv co cm nc → p ≡ (live cm nc o && eqb (oppositeAt co o) c) → p ≡ true
+      → (next o < length cv) × (previous o < length cv)
+  sides-there cv p t e h =
+      let l : o < nc = live-true cm nc o (and-left (live cm nc o) (eqb (oppositeAt co o) c) (sym e ∙ h)) .0 in
+      (omega (arith, next-below o nc (t .thirds) l, t .vertices), omega (arith, previous-below o nc (t .thirds) l, t .vertices))
+
+pub paired-not : (cm : List ℕ) (nc o : ℕ) (own : Bool) → nc ≤ o → false ≡ (live cm nc o && own)
+paired-not cm nc o own l = rw (← (not-live cm nc o l))
 
 module _ (cv co cm : List ℕ) (nc c o : ℕ) (is : o ≡ oppositeAt co c) where
   pub edge-none : o ≡ absent → oppositeTest cv co cm nc c ≡ true
@@ -141,13 +156,21 @@ faces-more P f p q i h = go (decLt i f)
     go (yes l) = p i l
     go (no n) = q i (omega arith) h
 
-pub counts-thirds : (croom vroom nv nc : ℕ) → countsTest croom vroom nv nc ≡ true → nc % 3 ≡ 0
+pub all-there : (cv co cm : List ℕ) (vroom nv nc : ℕ) (p : Bool) → p ≡ (leb nc (length cv) && leb nc (length co)) → p ≡ true
+    → countsTest (length cm) vroom nv nc ≡ true → There cv co cm nc
 unfolding countsTest
-counts-thirds croom vroom nv nc e =
-    let a = leb nc croom in
+all-there cv co cm vroom nv nc p is h e =
+    let v = leb nc (length cv) in
+    let o = leb nc (length co) in
+    let a = leb nc (length cm) in
     let b = leb nv vroom in
     let d = eqb (nc % 3) 0 in
-    eqb-true _ _ (and-right b d (and-right a (b && d) e))
+    record {
+      vertices = leb-true _ _ (and-left v o (sym is ∙ h));
+      opposites = leb-true _ _ (and-right v o (sym is ∙ h));
+      marks = leb-true _ _ (and-left a (b && d) e);
+      thirds = eqb-true _ _ (and-right b d (and-right a (b && d) e));
+    }
 
 module _ (cv co cm vc vm : List ℕ) (vp : List Float) (nv nc : ℕ) (counts : countsTest (length cm) (length vm) nv nc ≡ true)
     (marks : (i : ℕ) → i < nv → markTest vm i ≡ true) (faces : (i : ℕ) → i < nc → Fits cv co cm vm nv nc i) where

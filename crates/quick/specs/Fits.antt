@@ -1,9 +1,17 @@
 -- What the quick pass says of a corner: the tests of R2 to R4 pass there. Document 01, "Well-formed".
-use Prim.Native.Nat.{ℕ}
+use Prim.Native.Nat.{ℕ, _%_, _≤_}
 use mathlib.Core.Path.{_≡_}
 use mathlib.Core.List.{List}
 use mathlib.Core.Bool.{true}
+use lib.ListN.{length}
 use Rattle.rules.specs.Tests.{markTest, faceTest, vertexTest, differTest, oppositeTest}
+
+-- the corners in use are there, in whole faces
+pub record There (cv co cm : List ℕ) (nc : ℕ) : Type 0 where
+  pub vertices : nc ≤ length cv
+  pub opposites : nc ≤ length co
+  pub marks : nc ≤ length cm
+  pub thirds : nc % 3 ≡ 0
 
 -- R3 and R4
 pub record CornerFits (cv co cm vm : List ℕ) (nv nc c : ℕ) : Type 0 where

@@ -19,7 +19,8 @@ loop-holds : tie.Need-loop-holds Inv-loop μ-loop
 loop-holds c = (omega arith, omega arith, λ i l. absurd (omega arith))
 
 face-fits-requires : tie.Need-face-fits-requires Inv-loop μ-loop
-face-fits-requires c κs = (c .before .loop .inv .1, omega (arith, c .before .loop .inv .1))
+face-fits-requires c κs =
+    let p = c .before .before .before .before .before .before .pre in (c .before .loop .inv .1, omega (arith, c .before .loop .inv .1, p .thirds), p)
 
 add-f : tie.Need-add-f Inv-loop μ-loop
 add-f c = omega (arith, c .before .before .before .loop .inv .1)
