@@ -1,4 +1,4 @@
-// What a command answers: each check in its place. `step` does the command where its answer is 0.
+// What a command answers: each check in its place. `effects` does the command where its answer is 0.
 ghost use mathlib.Core.Path.{_≡_};
 ghost use mathlib.Core.List.{List};
 ghost use Prim.Native.Nat.{ℕ, _<_};

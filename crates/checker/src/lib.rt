@@ -3,7 +3,7 @@
 // Each rule is one or two tests of a slot (`rules`); one loop finds the first slot that fails a test, and one the first test that fails.
 // Before that a quick pass over the faces (`quick`) settles R1 to R4 at once where nothing is broken.
 //
-// The cost is of order n, but for R5's fans (`rules`), which are of order n log n.
+// The cost is of order n, but for R5's fans (`near`), which are of order n log n.
 ghost use mathlib.Core.Path.{_≡_};
 ghost use Rattle.table.specs.Table.{table};
 ghost use Rattle.rules.specs.Tests.{holds as holdsOf};
