@@ -18,11 +18,11 @@ use Rattle.table.specs.declared.Counts.{Counts}
 use Rattle.fan.proofs.Fan.{Linked}
 use Rattle.ring.specs.Ring.{ring}
 use Rattle.ring.proofs.Exact.{ring-exact}
-use Rattle.build.specs.Build.{SoFar, Course, go, faces, Shared, vertices, BuildOutcome, built, refused, start, laid, allFinite, isolated, done, spread, finish, build}
-use Rattle.build.specs.Ready.{Ready}
-use Rattle.build.proofs.Grow.{paired-linked}
-use Rattle.build.proofs.Folded.{Fine, faces-ready, start-ready}
-use Rattle.build.proofs.Settle.{Whole}
+use Rattle.builder_build.specs.Build.{SoFar, Course, go, faces, Shared, vertices, BuildOutcome, built, refused, start, laid, allFinite, isolated, done, spread, finish, build}
+use Rattle.builder_build.specs.Ready.{Ready}
+use Rattle.builder_build.proofs.Grow.{paired-linked}
+use Rattle.builder_build.proofs.Folded.{Fine, faces-ready, start-ready}
+use Rattle.builder_build.proofs.Settle.{Whole}
 use Rattle.builder_faces.specs.Steps.{soFar, stepped}
 use Rattle.builder_fans.specs.Chains.{shared, Ended, Threads, threads, threaded, marked, settled}
 use Rattle.builder_fans.proofs.Marks.{fast}

@@ -5,7 +5,7 @@ use mathlib.Core.List.{List}
 use lib.Ieee.{Float}
 use lib.ListN.{length, replicate}
 use Rattle.table.specs.Table.{table, blank, maxCorners, maxVertices}
-use Rattle.build.specs.Ready.{Ready}
+use Rattle.builder_build.specs.Ready.{Ready}
 use Rattle.builder_faces.specs.Steps.{soFar}
 
 -- a blank table with its points still to come, and room for them

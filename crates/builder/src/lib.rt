@@ -4,7 +4,7 @@ ghost use mathlib.Core.List.{List};
 ghost use lib.Ieee.{Float};
 ghost use lib.ListN.{length};
 ghost use Rattle.table.specs.Table.{table};
-ghost use Rattle.build.specs.Build.{built, go, build as buildOf, finish as finishOf, faces as facesOf, start, laid};
+ghost use Rattle.builder_build.specs.Build.{built, go, build as buildOf, finish as finishOf, faces as facesOf, start, laid};
 ghost use Rattle.builder_faces.specs.Steps.{soFar};
 ghost use Rattle.builder.specs.Calls.{Begun, Fresh};
 use builder_edges::points_refusal;
@@ -41,7 +41,7 @@ fn finish(
     builder_fans::thread_left(cv, cm, vm, n);
     let u = builder_fans::settle(co, cm, vm, cv, vc, vp, n, room, count);
     if u > room {
-        let none = create::clear(cv, co, cm, vc, vm, vp);
+        let none = table::clear(cv, co, cm, vc, vm, vp);
         return Built {
             answer: 5,
             skipped: 0,
@@ -84,7 +84,7 @@ fn add_all(
     builder_faces::add_vertices(vp, points);
     let r = builder_faces::add_faces(cv, co, vc, count, corners, faces);
     if r.answer != 0 {
-        let none = create::clear(cv, co, cm, vc, vm, vp);
+        let none = table::clear(cv, co, cm, vc, vm, vp);
         return Built {
             answer: r.answer,
             skipped: 0,
@@ -129,7 +129,7 @@ pub fn build(
     let corners = cm.len();
     let room = vm.len();
     let count = points.len() / 3;
-    let blank = create::clear(cv, co, cm, vc, vm, vp);
+    let blank = table::clear(cv, co, cm, vc, vm, vp);
     let a = points_refusal(room < count, !builder_faces::all_finite(points));
     if a != 0 {
         return Built {

@@ -10,7 +10,7 @@ use lib.Dec.{eqb, ltb}
 use Rattle.corner.specs.Corner.{absent, next, previous}
 use Rattle.corner.proofs.Turns.{next-first, next-second, next-last, previous-first, previous-second, previous-last}
 use Rattle.table.specs.Slots.{vertexAt}
-use Rattle.build.specs.Build.{edgeAt, findEdge, known, repeated}
+use Rattle.builder_build.specs.Build.{edgeAt, findEdge, known, repeated}
 use Rattle.flag.proofs.Words.{or-false}
 use Rattle.builder_edges.specs.declared.Found.{Found}
 use Rattle.builder_edges.specs.Search.{sought, noted, lookOf, faceLook, amongOf, touched, takenBy}

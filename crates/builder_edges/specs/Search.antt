@@ -5,7 +5,7 @@ use mathlib.Core.List.{List}
 use lib.Dec.{eqb}
 use Rattle.corner.specs.Corner.{absent}
 use Rattle.table.specs.Slots.{vertexAt}
-use Rattle.build.specs.Build.{findEdge}
+use Rattle.builder_build.specs.Build.{findEdge}
 use Rattle.builder_edges.specs.declared.Found.{Found}
 
 -- the first corner whose edge runs from b to c, from c to a, and so on, of the first n

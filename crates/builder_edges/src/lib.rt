@@ -6,7 +6,7 @@
 ghost use mathlib.Core.Path.{_≡_};
 ghost use mathlib.Core.Bool.{cond};
 ghost use Prim.Native.Nat.{_+_, _<_, _%_};
-ghost use Rattle.build.specs.Build.{known as knownOf, repeated as repeatedOf};
+ghost use Rattle.builder_build.specs.Build.{known as knownOf, repeated as repeatedOf};
 ghost use Rattle.builder_edges.specs.Search.{noted, lookOf, faceLook, touched, amongOf, sought, takenBy};
 
 // ---- the search

@@ -10,7 +10,7 @@ use lib.Dec.{ltb}
 use lib.ListN.{length, getD, set, drop, length-drop}
 use lib.Seq.{drop-cons}
 use Rattle.table.specs.Slots.{paired, three}
-use Rattle.build.specs.Build.{SoFar, skip, grow, Course, refuse, go, known, repeated, taken, face, onCourse, faces}
+use Rattle.builder_build.specs.Build.{SoFar, skip, grow, Course, refuse, go, known, repeated, taken, face, onCourse, faces}
 use Rattle.builder_edges.specs.declared.Found.{Found}
 use Rattle.builder_edges.specs.Search.{sought, takenBy}
 use Rattle.builder_faces.specs.Steps.{soFar, stepped}

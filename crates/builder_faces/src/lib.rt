@@ -4,7 +4,7 @@ ghost use Prim.Native.Nat.{_+_, _<_, _≤_, _%_};
 ghost use lib.ListN.{length, set};
 ghost use lib.Seq.{sets};
 ghost use Rattle.table.specs.Slots.{paired};
-ghost use Rattle.build.specs.Build.{allFinite, face as faceOf, faces as facesOf};
+ghost use Rattle.builder_build.specs.Build.{allFinite, face as faceOf, faces as facesOf};
 ghost use Rattle.builder_faces.specs.Steps.{soFar, stepped};
 use builder_edges::find_edges;
 use builder_edges::known;

@@ -13,8 +13,8 @@ use lib.Seq.{getD-set-same, getD-set-other}
 use Rattle.corner.specs.Corner.{absent}
 use Rattle.table.specs.Slots.{relabel}
 use Rattle.fan.proofs.Relabel.{length-relabel, relabel-in, relabel-out}
-use Rattle.build.specs.Build.{Shared, mem, give, left, corners, vertices}
-use Rattle.build.proofs.Settle.{mem-true, mem-false, vtx, corner}
+use Rattle.builder_build.specs.Build.{Shared, mem, give, left, corners, vertices}
+use Rattle.builder_build.proofs.Settle.{mem-true, mem-false, vtx, corner}
 use Rattle.builder_fans.specs.Chains.{Threads, threads, threadOf, threaded, chain, stepOf, takes, vertexOf, settled}
 
 -- ---- chains

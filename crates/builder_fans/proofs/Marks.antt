@@ -13,9 +13,9 @@ use Rattle.corner.specs.Corner.{absent}
 use Rattle.table.specs.Slots.{relabel}
 use Rattle.fan.proofs.Fan.{conn-vertex}
 use Rattle.fan.proofs.Relabel.{length-relabel, relabel-in, relabel-out, relabel-stays}
-use Rattle.build.specs.Build.{Shared, mem, vertices}
-use Rattle.build.proofs.Settle.{mem-true, mem-false, vtx, corner, Whole, Exact}
-use Rattle.build.proofs.Folded.{getD-replicate}
+use Rattle.builder_build.specs.Build.{Shared, mem, vertices}
+use Rattle.builder_build.proofs.Settle.{mem-true, mem-false, vtx, corner, Whole, Exact}
+use Rattle.builder_build.proofs.Folded.{getD-replicate}
 use Rattle.builder_fans.specs.Chains.{Threads, threads, threaded, markOf, marked, settled}
 use Rattle.builder_fans.proofs.Agree.{chain-lefts, fast-plain}
 

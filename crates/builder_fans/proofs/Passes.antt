@@ -11,7 +11,7 @@ use lib.ListN.{length, getD, set}
 use Rattle.corner.specs.Corner.{absent}
 use Rattle.vertex.specs.declared.Point.{Point}
 use Rattle.table.specs.Slots.{relabel, pointAt, withPoint}
-use Rattle.build.specs.Build.{Shared, give, isolated}
+use Rattle.builder_build.specs.Build.{Shared, give, isolated}
 use Rattle.builder_fans.specs.Chains.{shared, Ended, threads, threadOf, threaded, chain, markOf, marked, stepOf, takes, vertexOf, settled, isolateOf}
 
 -- ---- the fans that are kept

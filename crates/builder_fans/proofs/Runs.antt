@@ -7,7 +7,7 @@ use native.Mathlib.Numerals.{add-one}
 use native.Mathlib.Nat.{sub-zero}
 use lib.Ieee.{Float}
 use lib.ListN.{length}
-use Rattle.build.specs.Build.{Shared}
+use Rattle.builder_build.specs.Build.{Shared}
 use Rattle.builder_fans.specs.Chains.{shared, Ended}
 
 module _ {A : Type 0} (step : ℕ → A → A) (run : ℕ → ℕ → A → A) (run-zero : (i : ℕ) (s : A) → run 0 i s ≡ s)

@@ -9,7 +9,7 @@ use lib.Ieee.{Float}
 use lib.ListN.{getD, set}
 use Rattle.corner.specs.Corner.{absent}
 use Rattle.table.specs.Slots.{vertexAt, cornerAt, relabel}
-use Rattle.build.specs.Build.{Shared, give}
+use Rattle.builder_build.specs.Build.{Shared, give}
 
 abbrev pub shared : List ℕ → List ℕ → List Float → ℕ → Shared
 shared cv vc vp u = record { cv = cv; vc = vc; vp = vp; nv = u }

@@ -7,7 +7,7 @@
 ghost use mathlib.Core.Path.{_≡_};
 ghost use Prim.Native.Nat.{_+_, _<_, _≤_};
 ghost use Rattle.ring.specs.Ring.{ring};
-ghost use Rattle.build.specs.Build.{give as giveOf, isolated};
+ghost use Rattle.builder_build.specs.Build.{give as giveOf, isolated};
 ghost use Rattle.builder_fans.specs.Chains.{shared, marked, markOf, threads, threadOf, threaded, stepOf, chain, takes, vertexOf, settled, Ended, isolateOf};
 use corner::Corner;
 use vertex::Vertex;

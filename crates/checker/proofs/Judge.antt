@@ -10,14 +10,14 @@ use Rattle.table.specs.Table.{Table, shaped, Shaped}
 use Rattle.table.specs.Rules.{WellFormed}
 use Rattle.table.proofs.Shape.{shaped-true, true-shaped}
 use Rattle.fan.proofs.Tables.{table-linked}
-use Rattle.kinds.specs.Kinds.{tests, testAt, ruleOf, span, slotOf}
-use Rattle.kinds.specs.declared.Test.{Test}
-use Rattle.kinds.specs.declared.Test.the-variants.{Counts, CornerMark, FaceMark, VertexMark, CornerVertex}
-use Rattle.kinds.specs.declared.Test.the-variants.{FaceVertex, Opposite, VertexCorner, CornerFan, Finite}
-use Rattle.kinds.proofs.Places.{place, test-place, place-test, rule-order}
-use Rattle.rules.specs.Tests.{holds, AllHold}
-use Rattle.near.proofs.Walks.{fan-near}
-use Rattle.rules.proofs.Rules.{At, holds-at, at-holds}
+use Rattle.checker_kinds.specs.Kinds.{tests, testAt, ruleOf, span, slotOf}
+use Rattle.checker_kinds.specs.declared.Test.{Test}
+use Rattle.checker_kinds.specs.declared.Test.the-variants.{Counts, CornerMark, FaceMark, VertexMark, CornerVertex}
+use Rattle.checker_kinds.specs.declared.Test.the-variants.{FaceVertex, Opposite, VertexCorner, CornerFan, Finite}
+use Rattle.checker_kinds.proofs.Places.{place, test-place, place-test, rule-order}
+use Rattle.checker_rules.specs.Tests.{holds, AllHold}
+use Rattle.checker_rules.proofs.Walks.{fan-near}
+use Rattle.checker_rules.proofs.Rules.{At, holds-at, at-holds}
 use Rattle.checker.specs.First.{firstBad}
 use Rattle.checker.specs.Order.{firstOf, clean, passed, disagree, broken, ruled, verdictOf}
 use Rattle.checker.specs.Blame.{AllKeep, Blames, Judged, unshaped, sound, blamed}

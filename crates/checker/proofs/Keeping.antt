@@ -10,14 +10,14 @@ use Rattle.table.specs.Slots.{markAt}
 use Rattle.table.specs.Table.{Table, cornerRoom, vertexRoom, vertex, opposite, corner, Live, LiveVertex, Shaped}
 use Rattle.table.specs.Rules.{Fan, Mate}
 use Rattle.fan.proofs.Fan.{Linked, linked, Left, Conn, conn-sym, conn-trans, conn-live, conn-vertex, fan-conn, conn-fan}
-use Rattle.kinds.specs.Kinds.{testAt, span, slotOf}
-use Rattle.kinds.specs.declared.Test.{Test}
-use Rattle.kinds.specs.declared.Test.the-variants.{Counts, CornerMark, FaceMark, VertexMark, CornerVertex}
-use Rattle.kinds.specs.declared.Test.the-variants.{FaceVertex, Opposite, VertexCorner, CornerFan, Finite}
-use Rattle.kinds.proofs.Places.{place}
-use Rattle.rules.specs.Tests.{holds, AllHold}
-use Rattle.near.proofs.Walks.{Hit, near-hit, fan-near}
-use Rattle.rules.proofs.Rules.{At, holds-at, at-holds}
+use Rattle.checker_kinds.specs.Kinds.{testAt, span, slotOf}
+use Rattle.checker_kinds.specs.declared.Test.{Test}
+use Rattle.checker_kinds.specs.declared.Test.the-variants.{Counts, CornerMark, FaceMark, VertexMark, CornerVertex}
+use Rattle.checker_kinds.specs.declared.Test.the-variants.{FaceVertex, Opposite, VertexCorner, CornerFan, Finite}
+use Rattle.checker_kinds.proofs.Places.{place}
+use Rattle.checker_rules.specs.Tests.{holds, AllHold}
+use Rattle.checker_rules.proofs.Walks.{Hit, near-hit, fan-near}
+use Rattle.checker_rules.proofs.Rules.{At, holds-at, at-holds}
 use Rattle.checker.specs.Blame.{Keeps, Slot}
 
 -- ---- the three corners of a face, from its first one

@@ -10,10 +10,10 @@ use Rattle.table.specs.Table.{withCornerVertex, withCornerOpposite, withCornerM
 use Rattle.table.specs.Rules.{WellFormed}
 use Rattle.table.specs.Slots.{nought}
 use Rattle.table.specs.Meshes.{float1, float2, float3, meshA, meshB, meshT}
-use Rattle.kinds.specs.Kinds.{testAt, ruleOf, span, slotOf}
-use Rattle.near.specs.Near.{swing, near}
-use Rattle.rules.specs.Tests.{countsTest, markTest, faceTest, vertexTest, differTest, backTest, matesTest, oppositeTest}
-use Rattle.rules.specs.Tests.{cornerTest, fanTest, pointTest, holds}
+use Rattle.checker_kinds.specs.Kinds.{testAt, ruleOf, span, slotOf}
+use Rattle.checker_rules.specs.Near.{swing, near}
+use Rattle.checker_rules.specs.Tests.{countsTest, markTest, faceTest, vertexTest, differTest, backTest, matesTest, oppositeTest}
+use Rattle.checker_rules.specs.Tests.{cornerTest, fanTest, pointTest, holds}
 use Rattle.checker.specs.First.{firstFrom, firstBad}
 use Rattle.checker.specs.Order.{firstOf, clean, passed, broken, ruled, verdictOf}
 use Rattle.checker.specs.declared.Verdict.{Verdict}

@@ -4,9 +4,9 @@ use mathlib.Core.Path.{_≡_, ap, _∙_}
 use mathlib.Core.Bool.{Bool, true, false}
 use borrow.Author.Tests.{leb-true, le-leb, lt-leb, lt-ltb, le-ltb}
 use Rattle.table.specs.Table.{Table, shaped}
-use Rattle.kinds.specs.Kinds.{tests, testAt, span, ruleOf, slotOf}
-use Rattle.kinds.specs.declared.Test.{Test}
-use Rattle.rules.specs.Tests.{holds, AllHold}
+use Rattle.checker_kinds.specs.Kinds.{tests, testAt, span, ruleOf, slotOf}
+use Rattle.checker_kinds.specs.declared.Test.{Test}
+use Rattle.checker_rules.specs.Tests.{holds, AllHold}
 use Rattle.checker.specs.Order.{firstOf, clean, passed, disagree, broken, ruled, verdictOf}
 use Rattle.checker.specs.declared.Verdict.{Verdict}
 use Rattle.checker.proofs.First.{Passed, passed-bad, passed-all, all-pass, pass-all}

@@ -8,10 +8,10 @@ use Rattle.vertex.specs.Point.{finitePoint}
 use Rattle.table.specs.Slots.{markAt}
 use Rattle.table.specs.Table.{Table, cornerRoom, vertexRoom, vertex, opposite, corner, point, Live, LiveVertex, Shaped}
 use Rattle.table.specs.Rules.{Fan, Mate, WellFormed}
-use Rattle.kinds.specs.Kinds.{tests, testAt, ruleOf}
-use Rattle.kinds.specs.declared.Test.{Test}
-use Rattle.kinds.specs.declared.Test.the-variants.{Counts, CornerMark, FaceMark, VertexMark, CornerVertex}
-use Rattle.kinds.specs.declared.Test.the-variants.{FaceVertex, Opposite, VertexCorner, CornerFan, Finite}
+use Rattle.checker_kinds.specs.Kinds.{tests, testAt, ruleOf}
+use Rattle.checker_kinds.specs.declared.Test.{Test}
+use Rattle.checker_kinds.specs.declared.Test.the-variants.{Counts, CornerMark, FaceMark, VertexMark, CornerVertex}
+use Rattle.checker_kinds.specs.declared.Test.the-variants.{FaceVertex, Opposite, VertexCorner, CornerFan, Finite}
 use Rattle.checker.specs.Order.{passed, disagree, broken}
 use Rattle.checker.specs.declared.Verdict.{Verdict}
 

@@ -4,9 +4,9 @@ use Prim.Native.Nat.{ℕ}
 use mathlib.Core.Bool.{Bool, cond}
 use lib.Dec.{ltb, leb}
 use Rattle.table.specs.Table.{Table, shaped}
-use Rattle.kinds.specs.Kinds.{tests, testAt, ruleOf, span, slotOf}
-use Rattle.kinds.specs.declared.Test.{Test}
-use Rattle.rules.specs.Tests.{holds}
+use Rattle.checker_kinds.specs.Kinds.{tests, testAt, ruleOf, span, slotOf}
+use Rattle.checker_kinds.specs.declared.Test.{Test}
+use Rattle.checker_rules.specs.Tests.{holds}
 use Rattle.checker.specs.First.{firstBad}
 use Rattle.checker.specs.declared.Verdict.{Verdict}
 

@@ -6,16 +6,16 @@
 // The cost is of order n, but for R5's fans (`near`), which are of order n log n.
 ghost use mathlib.Core.Path.{_≡_};
 ghost use Rattle.table.specs.Table.{table};
-ghost use Rattle.rules.specs.Tests.{holds as holdsOf};
+ghost use Rattle.checker_rules.specs.Tests.{holds as holdsOf};
 ghost use Rattle.checker.specs.First.{firstBad};
 ghost use Rattle.checker.specs.Order.{firstOf, ruled as ruledOf, verdictOf};
-use kinds::Test;
-use kinds::rule_of;
-use kinds::slot_of;
-use kinds::span;
-use kinds::test_at;
-use quick::settled;
-use rules::holds;
+use checker_kinds::Test;
+use checker_kinds::rule_of;
+use checker_kinds::slot_of;
+use checker_kinds::span;
+use checker_kinds::test_at;
+use checker_quick::settled;
+use checker_rules::holds;
 use table::Counts;
 
 // Answer 0, 1 or 7. Rule and slot are 0 but for 7.

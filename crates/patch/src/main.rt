@@ -1,15 +1,15 @@
 // The main job: one patch file, named on the command line, is built, checked and edited by its script, and what came of it is printed.
 ghost use mathlib.Core.Path.{_≡_};
 ghost use Prim.Native.Nat.{_≤_};
-use file::face_words;
-use file::fault;
-use file::front;
-use file::point_words;
-use file::script_words;
-use report::edit;
-use report::put;
-use report::say;
-use report::say_result;
+use patch_file::face_words;
+use patch_file::fault;
+use patch_file::front;
+use patch_file::point_words;
+use patch_file::script_words;
+use patch_report::edit;
+use patch_report::put;
+use patch_report::say;
+use patch_report::say_result;
 use table::Counts;
 use table::at;
 
@@ -21,7 +21,7 @@ fn load_some(fd: i32, n: u32, words: &mut [u32]) -> u32
 {
     let mut bytes = io::large_buffer();
     let got = io::read_full(fd, &mut bytes);
-    records::decode(&bytes[..got], n, words);
+    words::decode(&bytes[..got], n, words);
     got as u32
 }
 
@@ -78,7 +78,7 @@ fn job(words: &[u32]) {
     let mut vc = [0u32; 65535];
     let mut vm = [0u32; 65535];
     let mut vp = [0.0f32; 196605];
-    records::put_numbers(point_words(words), 0, &mut numbers);
+    words::put_numbers(point_words(words), 0, &mut numbers);
     let b = builder::build(
         &mut cv,
         &mut co,

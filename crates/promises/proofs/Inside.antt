@@ -20,27 +20,27 @@ use Rattle.fan.proofs.Visits.{after, w, v, leftward, rightward}
 use Rattle.fan.proofs.Tables.{table-linked}
 use Rattle.ring.specs.Ring.{Side, side, ring as ringOf}
 use Rattle.ring.proofs.Exact.{bordered, side-is}
-use Rattle.lists.specs.declared.Kind.the-variants.{Vertices}
-use Rattle.visits.specs.Walk.{walk, visits}
-use Rattle.lists.specs.Lists.{entry, entries}
+use Rattle.traversal_lists.specs.declared.Kind.the-variants.{Vertices}
+use Rattle.traversal_visits.specs.Walk.{walk, visits}
+use Rattle.traversal_lists.specs.Lists.{entry, entries}
 use Rattle.traversal.proofs.Sound.{never-15, corner-calm, corner-healthy, Healthy, ring, fan}
 use Rattle.edge_collapse.specs.EdgeCollapse.{meetsBorder, neighbours, affectsBoundary}
 use Rattle.edge_collapse.proofs.Paper.{inner}
 use Rattle.edit_plans.specs.Plans.{around, triangle}
-use Rattle.keeps.specs.Keeps.{Kept}
-use Rattle.keeps.proofs.Used.{triangle-used, around-used, ring-used}
+use Rattle.edit_keeps.specs.Keeps.{Kept}
+use Rattle.edit_keeps.proofs.Used.{triangle-used, around-used, ring-used}
 use Rattle.checker.specs.Order.{verdictOf}
 use Rattle.checker.proofs.Judge.{verdict-sound}
-use Rattle.command.specs.declared.Edit.{Edit}
-use Rattle.command.specs.declared.Edit.the-variants.{Collapse, Flip, SplitEdge, SplitFace, Unknown}
-use Rattle.command.specs.Decode.{commandAt}
-use Rattle.answers.specs.Answers.{collapseAnswer, flipAnswer, splitEdgeAnswer, splitFaceAnswer, answer}
-use Rattle.command.proofs.Chain.{first-left, first-right, when-false}
-use Rattle.answers.proofs.Passed.{corner-live, face-live, room-passed, opposite-there}
-use Rattle.command.specs.Checks.{fits}
-use Rattle.commands.specs.Commands.{progress, commands}
+use Rattle.script_command.specs.declared.Edit.{Edit}
+use Rattle.script_command.specs.declared.Edit.the-variants.{Collapse, Flip, SplitEdge, SplitFace, Unknown}
+use Rattle.script_command.specs.Decode.{commandAt}
+use Rattle.script_answers.specs.Answers.{collapseAnswer, flipAnswer, splitEdgeAnswer, splitFaceAnswer, answer}
+use Rattle.script_answers.specs.Passed.{EndFits, CollapsePassed, SplitEdgePassed}
+use Rattle.script_answers.proofs.Passed.{collapse-passed, flip-passed, split-edge-passed, split-face-passed}
+use Rattle.script_command.specs.Checks.{cornersFor, fits}
+use Rattle.script.specs.Commands.{progress, commands}
 use Rattle.script.specs.Run.{whole, run}
-use Rattle.promises.specs.Promises.{Untangled, atEdge, ofFace, RingUsed, EndFits, InRange, collapse, flip, splitBorder, splitInner, splitFace, Safe, InsideRun}
+use Rattle.promises.specs.Promises.{Untangled, atEdge, ofFace, RingUsed, InRange, collapse, flip, splitBorder, splitInner, splitFace, Safe, InsideRun}
 use Rattle.promises.proofs.Promises.{after-every}
 
 module _ (t : Table) (Z : Shaped t) (W : WellFormed t) where
@@ -110,20 +110,12 @@ module _ (t : Table) (Z : Shaped t) (W : WellFormed t) where
   ring-about : (c : ℕ) → Live t c → RingUsed t (corner t (vertex t c))
   ring-about c h = ring-at (corner t (vertex t c)) (W .cornerLive (vertex t c) (W .vertexLive c h))
 
-  flip-in : (c : ℕ) → flipAnswer t c ≡ 0 → InRange t (Flip (record { 0 = c }))
-  unfolding flipAnswer
-  flip-in c e = flip (around-used t Z W c (corner-live t c (first-left _ _ e)) (opposite-there t c (first-left _ _ (first-right _ _ e))))
-
-  collapse-in : (c : ℕ) (p : Point) → collapseAnswer t c p ≡ 0 → InRange t (Collapse (record { 0 = c }) p)
-  unfolding collapseAnswer around
-  collapse-in c p e =
-      let h : Live t c = corner-live t c (first-left _ _ e) in
-      let h1 : Live t (next c) = L .face c h in
-      let n = when-false (affectsBoundary t c) 11 (omega arith) (first-left _ _ (first-right _ _ (first-right _ _ e))) in
-      collapse (around-used t Z W c h (inner t Z W c h n)) (ring-about (next c) h1) (ring-about (next (next c)) (L .face (next c) h1))
-
-  end-fits : (n : ℕ) → (t .vertices + 1 ≤ vertexRoom t) × (t .corners + n ≤ cornerRoom t) → EndFits t n
-  end-fits n r = record { vertices = omega (arith, r .0); corners = r .1 }
+  collapse-in : (c : ℕ) (p : Point) → CollapsePassed t c p → InRange t (Collapse (record { 0 = c }) p)
+  unfolding around
+  collapse-in c p k =
+      let h1 : Live t (next c) = L .face c (k .lives) in
+      collapse (around-used t Z W c (k .lives) (inner t Z W c (k .lives) (k .inside))) (ring-about (next c) h1)
+      (ring-about (next (next c)) (L .face (next c) h1))
 
   face-ring : (c : ℕ) → Live t c → RingUsed t (ofFace t c .c2 .0)
   unfolding triangle
@@ -133,33 +125,24 @@ module _ (t : Table) (Z : Shaped t) (W : WellFormed t) where
   unfolding around
   edge-ring c h = ring-at (next c) (L .face c h)
 
-  edge-in : (c : ℕ) (p : Point) → splitEdgeAnswer t c p ≡ 0 → InRange t (SplitEdge (record { 0 = c }) p)
-  unfolding splitEdgeAnswer
-  edge-in c p e = go (ℕ-discrete (opposite t c) absent)
+  edge-in : (c : ℕ) (p : Point) → SplitEdgePassed t c p → InRange t (SplitEdge (record { 0 = c }) p)
+  edge-in c p k = go (ℕ-discrete (opposite t c) absent)
     where
-      h : Live t c
-      h = corner-live t c (first-left _ _ e)
-
-      r : (t .vertices + 1 ≤ vertexRoom t) × (t .corners + cond (eqb (opposite t c) absent) 3 6 ≤ cornerRoom t)
-      r = room-passed t (cond (eqb (opposite t c) absent) 3 6) (first-right _ _ (first-right _ _ e))
+      fits : EndFits t (cornersFor (opposite t c))
+      fits = k .room
 
       go : Dec (opposite t c ≡ absent) → InRange t (SplitEdge (record { 0 = c }) p)
-      go (yes z) = splitBorder z (triangle-used t Z W (previous c) (face-previous L c h)) (face-ring (previous c) (face-previous L c h))
-          (end-fits 3 (rw (eq-eqb (opposite t c) absent z) at r))
-      go (no z) = splitInner z (around-used t Z W c h z) (edge-ring c h) (end-fits 6 (rw (ne-eqb (opposite t c) absent z) at r))
-
-  face-in : (f : ℕ) (p : Point) → splitFaceAnswer t f p ≡ 0 → InRange t (SplitFace (record { 0 = f }) p)
-  unfolding splitFaceAnswer
-  face-in f p e =
-      splitFace (triangle-used t Z W (firstCorner f) (face-live t f (first-left _ _ e)))
-      (end-fits 6 (room-passed t 6 (first-right _ _ (first-right _ _ e))))
+      go (yes z) = splitBorder z (triangle-used t Z W (previous c) (face-previous L c (k .lives)))
+          (face-ring (previous c) (face-previous L c (k .lives))) (rw (eq-eqb (opposite t c) absent z) at fits)
+      go (no z) = splitInner z (around-used t Z W c (k .lives) z) (edge-ring c (k .lives)) (rw (ne-eqb (opposite t c) absent z) at fits)
 
   in-range : (e : Edit) → answer t e ≡ 0 → InRange t e
   unfolding answer
-  in-range (Collapse c p) h = collapse-in (c .0) p h
-  in-range (Flip c) h = flip-in (c .0) h
-  in-range (SplitEdge c p) h = edge-in (c .0) p h
-  in-range (SplitFace f p) h = face-in (f .0) p h
+  in-range (Collapse c p) h = collapse-in (c .0) p (collapse-passed t (c .0) p h)
+  in-range (Flip c) h = let k = flip-passed t (c .0) h in flip (around-used t Z W (c .0) (k .lives) (k .inner))
+  in-range (SplitEdge c p) h = edge-in (c .0) p (split-edge-passed t (c .0) p h)
+  in-range (SplitFace f p) h =
+      let k = split-face-passed t (f .0) p h in splitFace (triangle-used t Z W (firstCorner (f .0)) (k .lives)) (k .room)
   in-range Unknown h = absurd (omega (arith, h))
 
   safe : (e : Edit) → Safe t e

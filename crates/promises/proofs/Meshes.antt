@@ -11,21 +11,21 @@ use Rattle.table.specs.Table.{extended, shapedBy, live}
 use Rattle.table.specs.Meshes.{meshA, meshB, meshT, float1, float2, float3}
 use Rattle.ring.specs.Ring.{side, ring}
 use Rattle.edit_plans.specs.Plans.{around}
-use Rattle.edit_inner.specs.Collapse.{winged, either, collapseVertices, collapseOpposites, collapseMarks, collapseCorners, collapseEdge}
+use Rattle.edit_collapse.specs.Collapse.{winged, either, collapseVertices, collapseOpposites, collapseMarks, collapseCorners, collapseEdge}
 use Rattle.edge_collapse.specs.EdgeCollapse.{meetsBorder, neighbours, timesIn, commonIn, affectsBoundary, unsafe}
-use Rattle.command.specs.declared.Edit.the-variants.{Collapse, Flip, SplitEdge, SplitFace}
-use Rattle.command.specs.Checks.{first, targeted, roomFor}
-use Rattle.answers.specs.Answers.{collapseAnswer, flipAnswer, splitEdgeAnswer, splitFaceAnswer, answer}
-use Rattle.command.specs.Decode.{decoded, commandAt}
-use Rattle.answers.specs.Step.{effect, step}
-use Rattle.kinds.specs.Kinds.{testAt, ruleOf, span, slotOf}
-use Rattle.near.specs.Near.{swing, near}
-use Rattle.rules.specs.Tests.{countsTest, markTest, faceTest, vertexTest, differTest, backTest, matesTest, oppositeTest}
-use Rattle.rules.specs.Tests.{cornerTest, fanTest, pointTest, holds}
+use Rattle.script_command.specs.declared.Edit.the-variants.{Collapse, Flip, SplitEdge, SplitFace}
+use Rattle.script_command.specs.Checks.{first, targeted, roomFor}
+use Rattle.script_answers.specs.Answers.{collapseAnswer, flipAnswer, splitEdgeAnswer, splitFaceAnswer, answer}
+use Rattle.script_command.specs.Decode.{decoded, commandAt}
+use Rattle.script_step.specs.Step.{effect, step}
+use Rattle.checker_kinds.specs.Kinds.{testAt, ruleOf, span, slotOf}
+use Rattle.checker_rules.specs.Near.{swing, near}
+use Rattle.checker_rules.specs.Tests.{countsTest, markTest, faceTest, vertexTest, differTest, backTest, matesTest, oppositeTest}
+use Rattle.checker_rules.specs.Tests.{cornerTest, fanTest, pointTest, holds}
 use Rattle.checker.specs.First.{firstFrom, firstBad}
 use Rattle.checker.specs.Order.{firstOf, clean, ruled, verdictOf}
-use Rattle.command.specs.Checks.{fits}
-use Rattle.commands.specs.Commands.{progress, commands}
+use Rattle.script_command.specs.Checks.{fits}
+use Rattle.script.specs.Commands.{progress, commands}
 use Rattle.script.specs.Run.{whole, run}
 
 -- the origin

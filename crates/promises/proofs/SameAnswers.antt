@@ -12,12 +12,12 @@ use Rattle.table.specs.Table.{Table, cornerRoom, vertexRoom, opposite, Live, Sh
 use Rattle.table.specs.Rules.{WellFormed}
 use Rattle.edge_collapse.specs.EdgeCollapse.{affectsBoundary}
 use Rattle.edge_collapse.proofs.Paper.{inner}
-use Rattle.command.specs.declared.Edit.{Edit}
-use Rattle.command.specs.declared.Edit.the-variants.{Collapse, Flip, SplitEdge, SplitFace, Unknown}
-use Rattle.command.specs.Checks.{first, when, targeted, roomFor}
-use Rattle.answers.specs.Answers.{cornerTarget, faceTarget, notFinite, noRoom, noOpposite, sameWings, collapseAnswer, flipAnswer, splitEdgeAnswer, splitFaceAnswer, answer}
-use Rattle.command.proofs.Chain.{first-same, when-false}
-use Rattle.answers.proofs.Passed.{corner-live, opposite-there}
+use Rattle.script_command.specs.declared.Edit.{Edit}
+use Rattle.script_command.specs.declared.Edit.the-variants.{Collapse, Flip, SplitEdge, SplitFace, Unknown}
+use Rattle.script_command.specs.Checks.{first, when, targeted, roomFor}
+use Rattle.script_answers.specs.Answers.{cornerTarget, faceTarget, notFinite, noRoom, noOpposite, sameWings, collapseAnswer, flipAnswer, splitEdgeAnswer, splitFaceAnswer, answer}
+use Rattle.script_command.proofs.Chain.{first-same, when-false}
+use Rattle.script_answers.proofs.Passed.{corner-live, opposite-there}
 use Rattle.promises.specs.Rooms.{Roomier}
 use Rattle.promises.proofs.SameReads.{same-opposite, same-vertex, same-mark, affects-same, unsafe-same}
 

@@ -13,12 +13,12 @@ use Rattle.vertex.specs.Point.{finitePoint}
 use Rattle.table.specs.Slots.{markAt}
 use Rattle.table.specs.Table.{Table, cornerRoom, vertexRoom, vertex, opposite}
 use Rattle.edge_collapse.specs.EdgeCollapse.{affectsBoundary, unsafe}
-use Rattle.command.specs.declared.Edit.the-variants.{Collapse, Flip, SplitEdge, SplitFace, Unknown}
-use Rattle.command.specs.Decode.{commandAt}
-use Rattle.command.specs.Checks.{first, when, targeted, roomFor}
-use Rattle.answers.specs.Answers.{cornerTarget, notFinite, sameWings, collapseAnswer, flipAnswer, splitEdgeAnswer, splitFaceAnswer, answer}
-use Rattle.answers.specs.Step.{step}
-use Rattle.commands.specs.Commands.{commands}
+use Rattle.script_command.specs.declared.Edit.the-variants.{Collapse, Flip, SplitEdge, SplitFace, Unknown}
+use Rattle.script_command.specs.Decode.{commandAt}
+use Rattle.script_command.specs.Checks.{first, when, targeted, roomFor}
+use Rattle.script_answers.specs.Answers.{cornerTarget, notFinite, sameWings, collapseAnswer, flipAnswer, splitEdgeAnswer, splitFaceAnswer, answer}
+use Rattle.script_step.specs.Step.{step}
+use Rattle.script.specs.Commands.{commands}
 use Rattle.promises.specs.Promises.{EachWord, OtherWords, AtMost14}
 
 -- commands from j on leave the words before j, and those after the last command

@@ -14,24 +14,25 @@ use Rattle.vertex.specs.declared.Point.{Point}
 use Rattle.table.specs.Table.{Table, Shaped, cornerRoom, vertexRoom, vertex, opposite, corner, Live}
 use Rattle.table.specs.Rules.{WellFormed}
 use Rattle.ring.specs.Ring.{ring}
-use Rattle.lists.specs.declared.Kind.{Kind}
-use Rattle.lists.specs.declared.Kind.the-variants.{Vertices}
-use Rattle.visits.specs.Walk.{tangled, walk, visits}
-use Rattle.lists.specs.Lists.{entries}
+use Rattle.traversal_lists.specs.declared.Kind.{Kind}
+use Rattle.traversal_lists.specs.declared.Kind.the-variants.{Vertices}
+use Rattle.traversal_visits.specs.Walk.{tangled, walk, visits}
+use Rattle.traversal_lists.specs.Lists.{entries}
 use Rattle.traversal.specs.Ring.{ringOf}
-use Rattle.build.specs.Build.{build}
+use Rattle.builder_build.specs.Build.{build}
 use Rattle.edge_collapse.specs.EdgeCollapse.{meetsBorder, neighbours}
 use Rattle.edit_plans.specs.declared.Around.{Around}
 use Rattle.edit_plans.specs.declared.Triangle.{Triangle}
 use Rattle.edit_plans.specs.Plans.{around, triangle}
-use Rattle.keeps.specs.Keeps.{Kept, AroundUsed, TriangleUsed}
-use Rattle.command.specs.declared.Edit.{Edit}
-use Rattle.command.specs.declared.Edit.the-variants.{Collapse, Flip, SplitEdge, SplitFace}
-use Rattle.command.specs.Decode.{commandAt}
-use Rattle.answers.specs.Answers.{answer}
-use Rattle.answers.specs.Step.{step}
-use Rattle.effects.specs.Stepped.{Stepped}
-use Rattle.commands.specs.Commands.{commands}
+use Rattle.edit_keeps.specs.Keeps.{Kept, AroundUsed, TriangleUsed}
+use Rattle.script_command.specs.declared.Edit.{Edit}
+use Rattle.script_command.specs.declared.Edit.the-variants.{Collapse, Flip, SplitEdge, SplitFace}
+use Rattle.script_command.specs.Decode.{commandAt}
+use Rattle.script_answers.specs.Answers.{answer}
+use Rattle.script_answers.specs.Passed.{EndFits}
+use Rattle.script_step.specs.Step.{step}
+use Rattle.script_step.specs.Stepped.{Stepped}
+use Rattle.script.specs.Commands.{commands}
 use Rattle.script.specs.Run.{run, RunOutcome}
 
 -- Demand 3, after every command: whatever the script and the answer words, after the first k commands the table is well-formed, V−E+F is what
@@ -105,11 +106,6 @@ ofFace t c = triangle (t .cornerVertex) (t .cornerOpposite) c
 pub record RingUsed (t : Table) (c : ℕ) : Type 0 where
   pub begins : Live t c
   pub visits : (d : ℕ) → List·Memᴰ d (ring (t .cornerOpposite) (t .corners) c) → d < t .corners
-
--- the slots that are put on the end, one vertex and n corners, are within the room
-pub record EndFits (t : Table) (n : ℕ) : Type 0 where
-  pub vertices : t .vertices < vertexRoom t
-  pub corners : t .corners + n ≤ cornerRoom t
 
 -- No index of a command is out of range: the slots that it reads and writes are used, or are those on the end. A collapse walks the rings of
 -- the kept vertex (v2) and the deleted one (v0), an edge split that of the moved vertex (at c2).

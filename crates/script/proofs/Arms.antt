@@ -10,9 +10,9 @@ use Rattle.table.specs.Table.{Table, shaped}
 use Rattle.checker.specs.declared.Verdict.{Verdict}
 use Rattle.checker.specs.Order.{verdictOf}
 use Rattle.checker.proofs.Judge.{verdict-sound}
-use Rattle.effects.specs.Stepped.{Good}
-use Rattle.command.specs.Checks.{fits}
-use Rattle.commands.specs.Commands.{Completed}
+use Rattle.table.specs.Rules.{Good}
+use Rattle.script_command.specs.Checks.{fits}
+use Rattle.script.specs.Commands.{Completed}
 use Rattle.script.specs.Run.{run, RunOutcome}
 
 no-one : (a : ℕ) {A : Type 0} → a ≡ 0 → (a ≡ 0 → ⊥) → A

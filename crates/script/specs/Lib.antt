@@ -1,2 +1,3 @@
--- A run of a script.
+-- The commands of a script, and a run.
+pub mod Commands
 pub mod Run

@@ -7,9 +7,9 @@ use lib.Dec.{eqb}
 use lib.ListN.{length}
 use Rattle.table.specs.Table.{Table, shaped}
 use Rattle.checker.specs.Order.{verdictOf}
-use Rattle.keeps.specs.Keeps.{Kept}
-use Rattle.command.specs.Checks.{fits}
-use Rattle.commands.specs.Commands.{Progress, progress, commands}
+use Rattle.edit_keeps.specs.Keeps.{Kept}
+use Rattle.script_command.specs.Checks.{fits}
+use Rattle.script.specs.Commands.{Progress, progress, commands}
 
 -- what a run leaves and answers
 pub record Whole : Type 0 where

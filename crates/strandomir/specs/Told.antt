@@ -4,7 +4,7 @@ use mathlib.Core.Bool.{cond}
 use mathlib.Core.Path.{_≡_}
 use mathlib.Core.List.{List}
 use Rattle.checker.specs.declared.Verdict.{Verdict}
-use Rattle.lists.specs.Outcome.{RingOutcome}
+use Rattle.traversal_lists.specs.Outcome.{RingOutcome}
 use Rattle.walker.specs.declared.Step.{Step}
 use Rattle.walker.specs.declared.Moved.{Moved as Move}
 use Rattle.strandomir.specs.declared.Checked.{Checked}

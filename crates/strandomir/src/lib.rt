@@ -5,11 +5,11 @@
 // counts, a corner and a vertex go as numbers: C knows no `Counts`, `Corner` or `Vertex`.
 ghost use mathlib.Core.Path.{_≡_};
 ghost use Rattle.table.specs.Table.{table};
-ghost use Rattle.build.specs.Build.{built, build as buildOf};
+ghost use Rattle.builder_build.specs.Build.{built, build as buildOf};
 ghost use Rattle.checker.specs.Order.{verdictOf};
 ghost use Rattle.script.specs.Run.{RunOutcome};
 ghost use Rattle.traversal.specs.Ring.{ringOf};
-ghost use Rattle.lists.specs.declared.Kind.the-variants.{Corners, Vertices, Faces, Edges, BoundingEdges};
+ghost use Rattle.traversal_lists.specs.declared.Kind.the-variants.{Corners, Vertices, Faces, Edges, BoundingEdges};
 ghost use Rattle.walker.specs.Walker.{toNext, toPrevious, toOpposite, swungLeft, swungRight};
 ghost use Rattle.strandomir.specs.Told.{verdict, listing, told as toldOf, MovedBy};
 use corner::Corner;

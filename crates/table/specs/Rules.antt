@@ -6,7 +6,7 @@ use mathlib.Core.Logic.{_≢_}
 use Rattle.corner.specs.Corner.{absent, next, previous}
 use Rattle.vertex.specs.Point.{finitePoint}
 use Rattle.table.specs.Slots.{markAt}
-use Rattle.table.specs.Table.{Table, cornerRoom, vertexRoom, vertex, opposite, corner, point, Live, LiveVertex}
+use Rattle.table.specs.Table.{Table, cornerRoom, vertexRoom, vertex, opposite, corner, point, Live, LiveVertex, Shaped}
 
 -- "The fan of a corner: swing left is next, opposite, next; swing right is previous, opposite, previous."
 pub data Fan (opp : ℕ → ℕ) (c : ℕ) : ℕ → Type 0 where
@@ -42,3 +42,8 @@ pub record WellFormed (t : Table) : Type 0 where
   pub oneFan : (c : ℕ) → Live t c → Fan (opposite t) (corner t (vertex t c)) c
   -- "R6 The three numbers of a live vertex are finite."
   pub finite : (v : ℕ) → LiveVertex t v → finitePoint (point t v) ≡ true
+
+-- parts that agree, and a well-formed table in them: what a check answers 0 to
+pub record Good (t : Table) : Type 0 where
+  pub shaped : Shaped t
+  pub wellFormed : WellFormed t

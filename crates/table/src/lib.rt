@@ -6,8 +6,9 @@
 ghost use mathlib.Core.Path.{_≡_};
 ghost use Prim.Native.Nat.{_+_, _*_, _<_};
 ghost use lib.ListN.{getD, set, length};
+ghost use Rattle.corner.specs.Corner.{absent};
 ghost use Rattle.table.specs.Slots.{vertexAt, oppositeAt, cornerAt, nought, pointAt, withPoint, paired, three, blanked};
-ghost use Rattle.table.specs.Table.{shapedBy, live};
+ghost use Rattle.table.specs.Table.{table, blank as blankOf, Shaped, shapedBy, live};
 use corner::Corner;
 use vertex::Point;
 use vertex::Vertex;
@@ -243,4 +244,49 @@ pub fn is_shaped(cv: usize, co: usize, cm: usize, vc: usize, vm: usize, vp: usiz
         return false;
     }
     vp == 3 * vm
+}
+
+// Every slot blank, as a refused build leaves them.
+fn blank(
+    cv: &mut [u32],
+    co: &mut [u32],
+    cm: &mut [u32],
+    vc: &mut [u32],
+    vm: &mut [u32],
+    vp: &mut [f32],
+)
+    ensures { λ r. ⌜ (now (cv .exit) ≡ blanked 0 (now (cv .entry)))
+        × (now (co .exit) ≡ blanked absent (now (co .entry)))
+        × (now (cm .exit) ≡ blanked 0 (now (cm .entry)))
+        × (now (vc .exit) ≡ blanked absent (now (vc .entry)))
+        × (now (vm .exit) ≡ blanked 0 (now (vm .entry)))
+        × (now (vp .exit) ≡ blanked nought (now (vp .entry))) ⌝ }
+{
+    fill(cv, 0);
+    fill(co, 4294967295);
+    fill(cm, 0);
+    fill(vc, 4294967295);
+    fill(vm, 0);
+    fill_nought(vp);
+}
+
+// Every slot blank; the counts of such a table.
+pub fn clear(
+    cv: &mut [u32],
+    co: &mut [u32],
+    cm: &mut [u32],
+    vc: &mut [u32],
+    vm: &mut [u32],
+    vp: &mut [f32],
+) -> Counts
+    requires { ⌜ Shaped (table (now cv) (now co) (now cm) (now vc) (now vm) (now vp) 0 0) ⌝ }
+    ensures { λ r. ⌜ table (now (cv .exit)) (now (co .exit)) (now (cm .exit)) (now (vc .exit)) (now (vm .exit)) (now (vp .exit))
+        (r .vertices) (r .corners)
+        ≡ blankOf (length (now (cm .entry))) (length (now (vm .entry))) ⌝ }
+{
+    blank(cv, co, cm, vc, vm, vp);
+    Counts {
+        vertices: 0,
+        corners: 0,
+    }
 }

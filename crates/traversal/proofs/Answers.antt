@@ -8,13 +8,13 @@ use borrow.Author.Tests.{lt-ltb, le-ltb, eq-eqb, ne-eqb}
 use Rattle.table.specs.Slots.{markAt}
 use Rattle.table.specs.Table.{Table, Shaped, shaped, corner}
 use Rattle.table.proofs.Shape.{shaped-true}
-use Rattle.visits.specs.Walk.{walk}
-use Rattle.lists.proofs.Answers.{Refused, refusal}
-use Rattle.lists.specs.Outcome.{RingOutcome, outcome, refused, walked}
+use Rattle.traversal_visits.specs.Walk.{walk}
+use Rattle.traversal_lists.proofs.Answers.{Refused, refusal}
+use Rattle.traversal_lists.specs.Outcome.{RingOutcome, outcome, refused, walked}
 use Rattle.traversal.specs.Ring.{usedCorners, usedVertices, begun, ringOf}
-use Rattle.lists.specs.Reached.{Fit}
-use Rattle.lists.specs.declared.Kind.{Kind}
-use Rattle.lists.specs.declared.Ring.{Ring}
+use Rattle.traversal_lists.specs.Reached.{Fit}
+use Rattle.traversal_lists.specs.declared.Kind.{Kind}
+use Rattle.traversal_lists.specs.declared.Ring.{Ring}
 
 module _ (v : ℕ) (t : Table) (b : Bool) (is : b ≡ shaped t) where
   pub start-1 : b ≡ false → (kind : Kind) (list : List ℕ) → ringOf kind v t list ≡ refused 1 list

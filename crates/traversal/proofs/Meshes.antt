@@ -6,11 +6,11 @@ use mathlib.Core.List.{List, [], _∷_}
 use Rattle.corner.specs.Corner.{next, previous}
 use Rattle.table.specs.Table.{shapedBy, live}
 use Rattle.table.specs.Meshes.{meshB, meshT}
-use Rattle.visits.specs.Walk.{faceLive, swing, side, leftOf, rightOf, afterLeft, afterRight, walk}
-use Rattle.lists.specs.Lists.{entry, twice}
-use Rattle.lists.specs.Outcome.{RingOutcome, refused}
+use Rattle.traversal_visits.specs.Walk.{faceLive, swing, side, leftOf, rightOf, afterLeft, afterRight, walk}
+use Rattle.traversal_lists.specs.Lists.{entry, twice}
+use Rattle.traversal_lists.specs.Outcome.{RingOutcome, refused}
 use Rattle.traversal.specs.Ring.{ringOf}
-use Rattle.lists.specs.declared.Kind.the-variants.{Corners, Vertices, Faces, Edges, BoundingEdges}
+use Rattle.traversal_lists.specs.declared.Kind.the-variants.{Corners, Vertices, Faces, Edges, BoundingEdges}
 
 nines : List ℕ
 nines = 9 ∷ 9 ∷ 9 ∷ 9 ∷ 9 ∷ []

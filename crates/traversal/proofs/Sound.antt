@@ -19,17 +19,17 @@ use Rattle.fan.proofs.Walk.{it, Stop, border, closes, Walk}
 use Rattle.fan.proofs.Ring.{stuckL, stuckR, open-right}
 use Rattle.fan.proofs.Visits.{after, length-after, Covers, Sound, w, v, leftward, rightward, ring-covers, fan-covers, total, covers-sound}
 use Rattle.fan.proofs.Tables.{table-linked, table-fan}
-use Rattle.visits.specs.Walk as Specs
-use Rattle.visits.specs.Walk.{faceLive, swing, Side, stop, more, side, leftOf, rightOf, tangled, closed, open′, afterLeft, afterRight, walk, visits}
-use Rattle.lists.specs.Lists.{entries}
-use Rattle.lists.specs.Outcome.{listed, refused, walked}
+use Rattle.traversal_visits.specs.Walk as Specs
+use Rattle.traversal_visits.specs.Walk.{faceLive, swing, Side, stop, more, side, leftOf, rightOf, tangled, closed, open′, afterLeft, afterRight, walk, visits}
+use Rattle.traversal_lists.specs.Lists.{entries}
+use Rattle.traversal_lists.specs.Outcome.{listed, refused, walked}
 use Rattle.traversal.specs.Ring.{usedCorners, usedVertices, walkOf, ringOf}
 use Rattle.traversal.specs.Promises.{VisitsBounded, NeverTangled, VisitsExact}
-use Rattle.visits.proofs.Counting.{visits-bound}
-use Rattle.visits.proofs.Steps.{lives-face, swing-border, swing-to, side-border, side-closed, side-more}
-use Rattle.lists.specs.declared.Kind.{Kind}
-use Rattle.visits.specs.declared.End.{End}
-use Rattle.visits.specs.declared.End.the-variants.{AtBorder, AtStart}
+use Rattle.traversal_visits.proofs.Counting.{visits-bound}
+use Rattle.traversal_visits.proofs.Steps.{lives-face, swing-border, swing-to, side-border, side-closed, side-more}
+use Rattle.traversal_lists.specs.declared.Kind.{Kind}
+use Rattle.traversal_visits.specs.declared.End.{End}
+use Rattle.traversal_visits.specs.declared.End.the-variants.{AtBorder, AtStart}
 
 -- ---- one side
 

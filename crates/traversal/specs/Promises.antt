@@ -6,9 +6,9 @@ use mathlib.Core.List.{List, List·Memᴰ}
 use Rattle.table.specs.Table.{Table, Shaped, Live, LiveVertex, vertex}
 use Rattle.table.specs.Rules.{WellFormed}
 use Rattle.fan.specs.Visits.{Distinct}
-use Rattle.visits.specs.Walk.{visits}
+use Rattle.traversal_visits.specs.Walk.{visits}
 use Rattle.traversal.specs.Ring.{usedCorners, walkOf, ringOf}
-use Rattle.lists.specs.declared.Kind.{Kind}
+use Rattle.traversal_lists.specs.declared.Kind.{Kind}
 
 -- "Visit count in the ring result, equal to the definition's visits, and limited by the table's corner count", on any table
 abbrev pub VisitsBounded : Type 0

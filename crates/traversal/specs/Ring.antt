@@ -5,9 +5,9 @@ use mathlib.Core.Bool.{cond}
 use lib.Dec.{ltb, eqb}
 use Rattle.table.specs.Slots.{markAt}
 use Rattle.table.specs.Table.{Table, cornerRoom, vertexRoom, shaped, corner}
-use Rattle.visits.specs.Walk.{Walk, walk}
-use Rattle.lists.specs.Outcome.{RingOutcome, refused, walked}
-use Rattle.lists.specs.declared.Kind.{Kind}
+use Rattle.traversal_visits.specs.Walk.{Walk, walk}
+use Rattle.traversal_lists.specs.Outcome.{RingOutcome, refused, walked}
+use Rattle.traversal_lists.specs.declared.Kind.{Kind}
 
 -- "A slot is used if its number is below both the count and the room."
 abbrev pub usedCorners : Table → ℕ

@@ -4,22 +4,22 @@ ghost use mathlib.Core.Path.{_≡_};
 ghost use mathlib.Core.List.{List};
 ghost use Prim.Native.Nat.{ℕ};
 ghost use Rattle.table.specs.Table.{table};
-ghost use Rattle.lists.specs.Reached.{Fit};
-ghost use Rattle.lists.specs.Outcome.{outcome};
-ghost use Rattle.lists.specs.declared.Kind.{Kind};
-ghost use Rattle.lists.specs.declared.Kind.the-variants.{Corners, Vertices, Faces, Edges, BoundingEdges};
+ghost use Rattle.traversal_lists.specs.Reached.{Fit};
+ghost use Rattle.traversal_lists.specs.Outcome.{outcome};
+ghost use Rattle.traversal_lists.specs.declared.Kind.{Kind};
+ghost use Rattle.traversal_lists.specs.declared.Kind.the-variants.{Corners, Vertices, Faces, Edges, BoundingEdges};
 ghost use Rattle.traversal.specs.Ring.{begun, ringOf};
 use corner::Corner;
-use lists::Kind;
-use lists::Ring;
-use lists::refused;
-use one_walk::ring_from;
+use traversal_lists::Kind;
+use traversal_lists::Ring;
+use traversal_lists::refused;
+use traversal_short::ring_from;
 use table::Counts;
 use table::at;
 use table::corner_of;
 use table::is_shaped;
 use vertex::Vertex;
-use visits::used_slots;
+use traversal_visits::used_slots;
 
 // What stands before a walk: the answer 1, 9 or 10; or 0, and where it begins.
 struct Start {

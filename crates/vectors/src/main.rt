@@ -6,12 +6,12 @@ ghost use lib.ListN.{length};
 ghost use Rattle.vectors.specs.Places.{placeOf};
 use flag::both;
 use libc::STDOUT_FILENO;
-use records::bump;
-use records::first;
-use records::least;
-use records::one_unless;
-use records::past;
-use replay_changes::Rooms;
+use words::bump;
+use words::first;
+use words::least;
+use words::one_unless;
+use words::past;
+use vectors_changes::Rooms;
 use table::Counts;
 use table::at;
 
@@ -23,7 +23,7 @@ fn load_some(fd: i32, n: u32, words: &mut [u32]) -> u32
 {
     let mut bytes = io::large_buffer();
     let got = io::read_full(fd, &mut bytes);
-    records::decode(&bytes[..got], n, words);
+    words::decode(&bytes[..got], n, words);
     (got / 4) as u32
 }
 
@@ -105,8 +105,8 @@ fn play(
         let op = at(words, from, 0);
         let n = at(words, from + 1, 0) as usize;
         let w = first(past(words, from + 2), n);
-        rooms = replay_changes::rooms_after(op, w, rooms);
-        let left = replay::replay(op, rooms, cv, co, cm, vc, vm, vp, counts, w, numbers, list);
+        rooms = vectors_changes::rooms_after(op, w, rooms);
+        let left = vectors_record::replay(op, rooms, cv, co, cm, vc, vm, vp, counts, w, numbers, list);
         counts = left.counts;
         bad += told(left.wrong, w.len() == n, k, op);
         k += 1;

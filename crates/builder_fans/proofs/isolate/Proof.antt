@@ -5,7 +5,7 @@ use borrow.Author.Needs.{needs}
 use denote.Ref.{now}
 use lib.ListN.{length}
 use Rattle.builder_fans.specs.Chains.{isolateOf}
-use Rattle.build.specs.Build.{isolated}
+use Rattle.builder_build.specs.Build.{isolated}
 use Rattle.builder_fans.proofs.Passes.{isolated-zero, isolated-suc}
 use Rattle.builder_fans.proofs.Runs.{run-start, run-next, run-end}
 use Rattle.builder_fans.proofs.isolate.Statement.{statement}

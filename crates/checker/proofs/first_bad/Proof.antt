@@ -4,7 +4,7 @@ use mathlib.Core.Path.{sym, _∙_}
 use native.Mathlib.Omega.{arith}
 use borrow.Author.Needs.{needs}
 use Rattle.table.specs.Table.{table}
-use Rattle.rules.specs.Tests.{holds}
+use Rattle.checker_rules.specs.Tests.{holds}
 use Rattle.checker.proofs.First.{Passed, passed-start, passed-more, passed-bad, passed-all}
 use Rattle.checker.proofs.first_bad.Statement.{statement}
 use Rattle.checker.proofs.first_bad.Tie as tie

@@ -4,7 +4,7 @@ use native.Mathlib.Omega.{arith}
 use borrow.Author.Needs.{needs}
 use denote.Ref.{now}
 use Rattle.table.specs.Table.{table}
-use Rattle.kinds.specs.Kinds.{tests}
+use Rattle.checker_kinds.specs.Kinds.{tests}
 use Rattle.checker.specs.Order.{clean}
 use Rattle.checker.proofs.First.{Passed, passed-more}
 use Rattle.checker.proofs.Order.{all-clean, clean-yes, ruled-bad, ruled-good}

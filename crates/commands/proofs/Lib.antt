@@ -1,2 +1,0 @@
--- Laws of the loop.
-pub mod Loop

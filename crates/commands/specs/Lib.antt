@@ -1,2 +1,0 @@
--- The commands of a script.
-pub mod Commands

@@ -1,2 +1,0 @@
--- Laws of the blank table.
-pub mod Blanking

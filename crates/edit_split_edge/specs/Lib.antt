@@ -1,0 +1,2 @@
+-- An edge split, slot by slot, as edit.rs has it.
+pub mod SplitEdge

@@ -1,2 +1,0 @@
--- The arms of a command.
-pub mod Arms

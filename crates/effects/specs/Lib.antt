@@ -1,2 +1,0 @@
--- What one command leaves and answers.
-pub mod Stepped

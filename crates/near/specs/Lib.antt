@@ -1,2 +1,0 @@
--- R5's walks.
-pub mod Near

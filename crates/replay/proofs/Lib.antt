@@ -1,2 +1,0 @@
--- The laws behind the lending of the first entries.
-pub mod Seams

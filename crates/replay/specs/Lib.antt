@@ -1,2 +1,0 @@
--- What a record leaves of parts at their largest.
-pub mod Replay

@@ -1,2 +1,0 @@
--- The laws behind any record.
-pub mod Arms

@@ -1,2 +1,0 @@
--- What a record of the stored list leaves.
-pub mod Record

@@ -1,2 +1,0 @@
--- R1 to R6 as tests of one slot.
-pub mod Tests

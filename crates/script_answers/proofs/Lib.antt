@@ -1,0 +1,3 @@
+-- Laws of a command's answers.
+pub mod Passed
+pub mod Cases

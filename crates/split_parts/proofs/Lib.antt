@@ -1,3 +1,0 @@
--- Laws of what the splits write.
-pub mod Writes
-pub mod Without

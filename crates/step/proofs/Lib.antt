@@ -1,2 +1,0 @@
--- A command by its kind.
-pub mod Arms

@@ -1,0 +1,3 @@
+-- The laws behind any record, and behind the lending of the first entries.
+pub mod Arms
+pub mod Seams

@@ -1,0 +1,3 @@
+-- What a record of the stored list leaves, also of parts at their largest.
+pub mod Record
+pub mod Replay
