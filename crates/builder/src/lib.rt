@@ -3,7 +3,7 @@ ghost use mathlib.Core.Path.{_≡_};
 ghost use mathlib.Core.List.{List};
 ghost use lib.Ieee.{Float};
 ghost use lib.ListN.{length};
-ghost use Rattle.table.specs.Table.{table};
+ghost use Rattle.table.specs.Lent.{before, after};
 ghost use Rattle.builder_build.specs.Build.{built, go, build as buildOf, finish as finishOf, faces as facesOf, start, laid};
 ghost use Rattle.builder_faces.specs.Steps.{soFar};
 ghost use Rattle.builder.specs.Calls.{Begun, Fresh};
@@ -33,8 +33,7 @@ fn finish(
 ) -> Built
     requires { ⌜ Begun (now cv) (now co) (now cm) (now vc) (now vm) (now vp) n count room skipped ⌝ }
     ensures { λ r. ⌜ ((points : List Float) → now (vp .entry) ≡ laid room points
-        → built (r .answer) (r .skipped) (table (now (cv .exit)) (now (co .exit)) (now (cm .exit)) (now (vc .exit)) (now (vm .exit))
-        (now (vp .exit)) (r .counts .vertices) (r .counts .corners))
+        → built (r .answer) (r .skipped) (after cv co cm vc vm vp (r .counts))
         ≡ finishOf (length (now (cm .entry))) room count points (go (soFar (now (cv .entry)) (now (co .entry)) (now (vc .entry)) n skipped))) ⌝ }
 {
     builder_fans::mark_fans(co, vc, cm, n, count);
@@ -76,9 +75,7 @@ fn add_all(
     count: u32,
 ) -> Built
     requires { ⌜ Fresh (now cv) (now co) (now cm) (now vc) (now vm) (now vp) (now points) corners room count ⌝ }
-    ensures { λ r. ⌜ built (r .answer) (r .skipped)
-        (table (now (cv .exit)) (now (co .exit)) (now (cm .exit)) (now (vc .exit)) (now (vm .exit)) (now (vp .exit))
-        (r .counts .vertices) (r .counts .corners))
+    ensures { λ r. ⌜ built (r .answer) (r .skipped) (after cv co cm vc vm vp (r .counts))
         ≡ finishOf corners room count (now (points .entry)) (facesOf count corners (start corners room) (now (faces .entry))) ⌝ }
 {
     builder_faces::add_vertices(vp, points);
@@ -106,11 +103,8 @@ pub fn build(
     points: &[f32],
     faces: &[u32],
 ) -> Built
-    ensures { λ r. ⌜ built (r .answer) (r .skipped)
-        (table (now (cv .exit)) (now (co .exit)) (now (cm .exit)) (now (vc .exit)) (now (vm .exit)) (now (vp .exit))
-        (r .counts .vertices) (r .counts .corners))
-        ≡ buildOf (table (now (cv .entry)) (now (co .entry)) (now (cm .entry)) (now (vc .entry)) (now (vm .entry)) (now (vp .entry))
-        (counts .vertices) (counts .corners)) (now (points .entry)) (now (faces .entry)) ⌝ }
+    ensures { λ r. ⌜ built (r .answer) (r .skipped) (after cv co cm vc vm vp (r .counts))
+        ≡ buildOf (before cv co cm vc vm vp counts) (now (points .entry)) (now (faces .entry)) ⌝ }
 {
     if !table::is_shaped(cv.len(), co.len(), cm.len(), vc.len(), vm.len(), vp.len()) {
         return Built {

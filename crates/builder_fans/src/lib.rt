@@ -116,8 +116,7 @@ fn take_chain(
     requires { ⌜ count ≤ room ⌝ }
     requires { ⌜ room < 4294967295 ⌝ }
     ensures { λ r. ⌜ Ended room (takes (ring (now (co .entry)) n) v (chain (now (cm .entry)) n first) (shared (now (cv .entry)) (now (vc .entry))
-        (now (vp .entry)) count))
-        (now (cv .exit)) (now (vc .exit)) (now (vp .exit)) r ⌝ }
+        (now (vp .entry)) count)) (now (cv .exit)) (now (vc .exit)) (now (vp .exit)) r ⌝ }
 {
     let mut h = first;
     let mut rest = n;
@@ -153,8 +152,7 @@ fn one_vertex(
     requires { ⌜ u ≤ room ⌝ }
     requires { ⌜ room < 4294967295 ⌝ }
     ensures { λ r. ⌜ Ended room (vertexOf (ring (now (co .entry)) n) (now (cm .entry)) (now (vm .entry)) n v (shared (now (cv .entry))
-        (now (vc .entry)) (now (vp .entry)) u))
-        (now (cv .exit)) (now (vc .exit)) (now (vp .exit)) r ⌝ }
+        (now (vc .entry)) (now (vp .entry)) u)) (now (cv .exit)) (now (vc .exit)) (now (vp .exit)) r ⌝ }
 {
     let first = table::at(vm, v as usize, 0);
     take_chain(co, cm, cv, vc, vp, n, room, v, first, u)
@@ -175,8 +173,7 @@ pub fn settle(
     requires { ⌜ count ≤ room ⌝ }
     requires { ⌜ room < 4294967295 ⌝ }
     ensures { λ r. ⌜ Ended room (settled (ring (now (co .entry)) n) (now (cm .entry)) (now (vm .entry)) n count 0 (shared (now (cv .entry))
-        (now (vc .entry)) (now (vp .entry)) count))
-        (now (cv .exit)) (now (vc .exit)) (now (vp .exit)) r ⌝ }
+        (now (vc .entry)) (now (vp .entry)) count)) (now (cv .exit)) (now (vc .exit)) (now (vp .exit)) r ⌝ }
 {
     let mut v: u32 = 0;
     let mut u = count;

@@ -5,7 +5,7 @@
 //
 // The cost is of order n, but for R5's fans (`near`), which are of order n log n.
 ghost use mathlib.Core.Path.{_≡_};
-ghost use Rattle.table.specs.Table.{table};
+ghost use Rattle.table.specs.Lent.{countsOf, before};
 ghost use Rattle.checker_rules.specs.Tests.{holds as holdsOf};
 ghost use Rattle.checker.specs.First.{firstBad};
 ghost use Rattle.checker.specs.Order.{firstOf, ruled as ruledOf, verdictOf};
@@ -39,8 +39,7 @@ fn first_bad(
     nc: u32,
     n: u32,
 ) -> u32
-    ensures { λ r. ⌜ r ≡ firstBad (holdsOf test
-        (table (now (cv .entry)) (now (co .entry)) (now (cm .entry)) (now (vc .entry)) (now (vm .entry)) (now (vp .entry)) nv nc)) n ⌝ }
+    ensures { λ r. ⌜ r ≡ firstBad (holdsOf test (before cv co cm vc vm vp (countsOf nv nc))) n ⌝ }
 {
     let mut i = 0;
     while i < n {
@@ -64,8 +63,7 @@ fn first_of(
     nv: u32,
     nc: u32,
 ) -> u32
-    ensures { λ r. ⌜ r ≡ firstOf test
-        (table (now (cv .entry)) (now (co .entry)) (now (cm .entry)) (now (vc .entry)) (now (vm .entry)) (now (vp .entry)) nv nc) ⌝ }
+    ensures { λ r. ⌜ r ≡ firstOf test (before cv co cm vc vm vp (countsOf nv nc)) ⌝ }
 {
     first_bad(test, cv, co, cm, vc, vm, vp, nv, nc, span(test, nv, nc))
 }
@@ -80,8 +78,7 @@ fn ruled(
     nv: u32,
     nc: u32,
 ) -> Verdict
-    ensures { λ r. ⌜ r ≡ ruledOf
-        (table (now (cv .entry)) (now (co .entry)) (now (cm .entry)) (now (vc .entry)) (now (vm .entry)) (now (vp .entry)) nv nc) ⌝ }
+    ensures { λ r. ⌜ r ≡ ruledOf (before cv co cm vc vm vp (countsOf nv nc)) ⌝ }
 {
     let mut k = settled(cv, co, cm, vm, nv, nc);
     while k < 10 {
@@ -112,9 +109,7 @@ pub fn check(
     vp: &[f32],
     counts: Counts,
 ) -> Verdict
-    ensures { λ r. ⌜ r ≡ verdictOf
-        (table (now (cv .entry)) (now (co .entry)) (now (cm .entry)) (now (vc .entry)) (now (vm .entry)) (now (vp .entry))
-        (counts .vertices) (counts .corners)) ⌝ }
+    ensures { λ r. ⌜ r ≡ verdictOf (before cv co cm vc vm vp counts) ⌝ }
 {
     if table::is_shaped(cv.len(), co.len(), cm.len(), vc.len(), vm.len(), vp.len()) {
         return ruled(cv, co, cm, vc, vm, vp, counts.vertices, counts.corners);

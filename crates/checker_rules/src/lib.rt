@@ -1,7 +1,7 @@
 // R1 to R6 as tests of one slot, on any table. They only read, and need no memory. The cost of a test is bounded, but for R5's fans (`near`).
 ghost use mathlib.Core.Bool.{true, false};
 ghost use mathlib.Core.Path.{_≡_};
-ghost use Rattle.table.specs.Table.{table};
+ghost use Rattle.table.specs.Lent.{countsOf, before};
 ghost use Rattle.checker_rules.specs.Near.{onto as ontoOf, swing as swingOf, hits as hitsOf, near as nearOf};
 ghost use Rattle.checker_rules.specs.Tests.{countsTest, markTest, faceTest, vertexTest, differTest, backTest, matesTest, oppositeTest, cornerTest, fanTest, pointTest, holds as holdsOf};
 use checker_kinds::Test;
@@ -200,8 +200,7 @@ pub fn holds(
     nc: u32,
     i: u32,
 ) -> bool
-    ensures { λ r. ⌜ r ≡ holdsOf test
-        (table (now (cv .entry)) (now (co .entry)) (now (cm .entry)) (now (vc .entry)) (now (vm .entry)) (now (vp .entry)) nv nc) i ⌝ }
+    ensures { λ r. ⌜ r ≡ holdsOf test (before cv co cm vc vm vp (countsOf nv nc)) i ⌝ }
 {
     match test {
         Test::Counts => counts_test(cm.len(), vm.len(), nv, nc),

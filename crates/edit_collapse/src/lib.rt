@@ -4,7 +4,7 @@ ghost use mathlib.Core.Path.{_≡_};
 ghost use Prim.Native.Nat.{_<_};
 ghost use Rattle.corner.specs.Corner.{absent};
 ghost use Rattle.table.specs.Slots.{oppositeAt};
-ghost use Rattle.table.specs.Table.{table};
+ghost use Rattle.table.specs.Lent.{before, after};
 ghost use Rattle.edit_plans.specs.Plans.{EdgeThere};
 ghost use Rattle.edit_collapse.specs.Collapse.{winged, either as eitherOf, collapseVertices, collapseOpposites, collapseMarks, collapseCorners, collapseEdge};
 use corner::Corner;
@@ -86,10 +86,7 @@ pub fn collapse_edge(
 )
     requires { ⌜ (edge .0 < absent) × (oppositeAt (now co) (edge .0) < absent) ⌝ }
     requires { ⌜ EdgeThere (now cv) (now co) (edge .0) ⌝ }
-    ensures { λ r. ⌜ table (now (cv .exit)) (now (co .exit)) (now (cm .exit)) (now (vc .exit)) (now (vm .exit)) (now (vp .exit))
-        (counts .vertices) (counts .corners)
-        ≡ collapseEdge (table (now (cv .entry)) (now (co .entry)) (now (cm .entry)) (now (vc .entry)) (now (vm .entry)) (now (vp .entry))
-        (counts .vertices) (counts .corners)) (edge .0) at ⌝ }
+    ensures { λ r. ⌜ after cv co cm vc vm vp counts ≡ collapseEdge (before cv co cm vc vm vp counts) (edge .0) at ⌝ }
 {
     let p = read_around(cv, co, edge);
     collapse_vertices(cv, co, vc, p, counts.corners);

@@ -53,8 +53,7 @@ fn flip_corners(vc: &mut [u32], p: Around)
 pub fn flip_edge(cv: &mut [u32], co: &mut [u32], vc: &mut [u32], edge: Corner)
     requires { ⌜ (edge .0 < absent) × (oppositeAt (now co) (edge .0) < absent) ⌝ }
     requires { ⌜ EdgeThere (now cv) (now co) (edge .0) × VerticesThere (length (now vc)) (around (now cv) (now co) (edge .0)) ⌝ }
-    ensures { λ r. ⌜ ((cm vm : List ℕ) (vp : List Float) (i j : ℕ) →
-        table (now (cv .exit)) (now (co .exit)) cm (now (vc .exit)) vm vp i j
+    ensures { λ r. ⌜ ((cm vm : List ℕ) (vp : List Float) (i j : ℕ) → table (now (cv .exit)) (now (co .exit)) cm (now (vc .exit)) vm vp i j
         ≡ flipEdge (table (now (cv .entry)) (now (co .entry)) cm (now (vc .entry)) vm vp i j) (edge .0)) ⌝ }
 {
     let p = read_around(cv, co, edge);

@@ -5,7 +5,7 @@ ghost use mathlib.Core.Path.{_≡_};
 ghost use Prim.Native.Nat.{_+_, _<_};
 ghost use Rattle.corner.specs.Corner.{absent};
 ghost use Rattle.table.specs.Slots.{oppositeAt};
-ghost use Rattle.table.specs.Table.{table};
+ghost use Rattle.table.specs.Lent.{before, after};
 ghost use Rattle.edit_plans.specs.Plans.{EdgeThere};
 ghost use Rattle.edit_split_edge.specs.SplitEdge.{splitPoints, splitCorners, innerVertices, innerOpposites, boundaryVertices, boundaryOpposites, splitInnerEdge, splitBoundaryEdge, splitEdge};
 use corner::Corner;
@@ -117,10 +117,7 @@ fn split_boundary_edge(
     at: Point,
 ) -> Counts
     requires { ⌜ (counts .corners + 6 < absent) × (counts .vertices + 1 < absent) × (edge .0 < absent) ⌝ }
-    ensures { λ r. ⌜ table (now (cv .exit)) (now (co .exit)) (now (cm .exit)) (now (vc .exit)) (now (vm .exit)) (now (vp .exit))
-        (r .vertices) (r .corners)
-        ≡ splitBoundaryEdge (table (now (cv .entry)) (now (co .entry)) (now (cm .entry)) (now (vc .entry)) (now (vm .entry)) (now (vp .entry))
-        (counts .vertices) (counts .corners)) (edge .0) at ⌝ }
+    ensures { λ r. ⌜ after cv co cm vc vm vp r ≡ splitBoundaryEdge (before cv co cm vc vm vp counts) (edge .0) at ⌝ }
 {
     let p = read_triangle(cv, co, edge.previous());
     let u = Vertex(counts.vertices);
@@ -152,10 +149,7 @@ fn split_inner_edge(
     requires { ⌜ (counts .corners + 6 < absent) × (counts .vertices + 1 < absent) × (edge .0 < absent)
         × (oppositeAt (now co) (edge .0) < absent) ⌝ }
     requires { ⌜ EdgeThere (now cv) (now co) (edge .0) ⌝ }
-    ensures { λ r. ⌜ table (now (cv .exit)) (now (co .exit)) (now (cm .exit)) (now (vc .exit)) (now (vm .exit)) (now (vp .exit))
-        (r .vertices) (r .corners)
-        ≡ splitInnerEdge (table (now (cv .entry)) (now (co .entry)) (now (cm .entry)) (now (vc .entry)) (now (vm .entry)) (now (vp .entry))
-        (counts .vertices) (counts .corners)) (edge .0) at ⌝ }
+    ensures { λ r. ⌜ after cv co cm vc vm vp r ≡ splitInnerEdge (before cv co cm vc vm vp counts) (edge .0) at ⌝ }
 {
     let p = read_around(cv, co, edge);
     let u = Vertex(counts.vertices);
@@ -185,10 +179,7 @@ pub fn split_edge(
 ) -> Counts
     requires { ⌜ (counts .corners + 6 < absent) × (counts .vertices + 1 < absent) × (edge .0 < absent) ⌝ }
     requires { ⌜ (oppositeAt (now co) (edge .0) ≢ absent → EdgeThere (now cv) (now co) (edge .0)) ⌝ }
-    ensures { λ r. ⌜ table (now (cv .exit)) (now (co .exit)) (now (cm .exit)) (now (vc .exit)) (now (vm .exit)) (now (vp .exit))
-        (r .vertices) (r .corners)
-        ≡ splitEdge (table (now (cv .entry)) (now (co .entry)) (now (cm .entry)) (now (vc .entry)) (now (vm .entry)) (now (vp .entry))
-        (counts .vertices) (counts .corners)) (edge .0) at ⌝ }
+    ensures { λ r. ⌜ after cv co cm vc vm vp r ≡ splitEdge (before cv co cm vc vm vp counts) (edge .0) at ⌝ }
 {
     if table::opposite_of(co, edge).0 == 4294967295 {
         split_boundary_edge(cv, co, cm, vc, vm, vp, counts, edge, at)

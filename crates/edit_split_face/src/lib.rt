@@ -3,7 +3,7 @@
 ghost use mathlib.Core.Path.{_≡_};
 ghost use Prim.Native.Nat.{_+_, _<_};
 ghost use Rattle.corner.specs.Corner.{absent, firstCorner};
-ghost use Rattle.table.specs.Table.{table};
+ghost use Rattle.table.specs.Lent.{before, after};
 ghost use Rattle.edit_split_face.specs.SplitFace.{faceVertices, faceOpposites, faceCorners, splitFace};
 use corner::Corner;
 use corner::Face;
@@ -71,10 +71,7 @@ pub fn split_face(
     at: Point,
 ) -> Counts
     requires { ⌜ (counts .corners + 6 < absent) × (counts .vertices + 1 < absent) × (firstCorner (face .0) < absent) ⌝ }
-    ensures { λ r. ⌜ table (now (cv .exit)) (now (co .exit)) (now (cm .exit)) (now (vc .exit)) (now (vm .exit)) (now (vp .exit))
-        (r .vertices) (r .corners)
-        ≡ splitFace (table (now (cv .entry)) (now (co .entry)) (now (cm .entry)) (now (vc .entry)) (now (vm .entry)) (now (vp .entry))
-        (counts .vertices) (counts .corners)) (face .0) at ⌝ }
+    ensures { λ r. ⌜ after cv co cm vc vm vp r ≡ splitFace (before cv co cm vc vm vp counts) (face .0) at ⌝ }
 {
     let p = read_triangle(cv, co, face.corner());
     let u = Vertex(counts.vertices);

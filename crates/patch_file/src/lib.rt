@@ -7,9 +7,9 @@ ghost use lib.ListN.{take};
 ghost use Rattle.patch_file.specs.File.{limited, size as sizeOf, ended, faultOf, pointWords, faceWords, scriptWords};
 use script_command::first as refusal;
 use script_command::when;
+use table::at;
 use words::first;
 use words::past;
-use table::at;
 
 // 3 above a limit.
 fn limit(points: u32, faces: u32, commands: u32) -> u32

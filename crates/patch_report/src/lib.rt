@@ -1,5 +1,5 @@
 // What is said of a patch: a line for what was built, for each refused command and for what came of the script; and the edits, said so.
-ghost use Rattle.table.specs.Table.{table};
+ghost use Rattle.table.specs.Lent.{before, after};
 ghost use Rattle.script.specs.Run.{RunOutcome};
 use libc::STDOUT_FILENO;
 use script::Ran;
@@ -131,12 +131,8 @@ pub fn edit(
     answers: &mut [u32],
     n: u32,
 ) -> Ran
-    ensures { λ r. ⌜ RunOutcome (now (script .entry)) (now (answers .entry))
-        (table (now (cv .entry)) (now (co .entry)) (now (cm .entry)) (now (vc .entry)) (now (vm .entry)) (now (vp .entry))
-        (counts .vertices) (counts .corners))
-        (r .answer) (r .rule) (r .slot) (now (answers .exit))
-        (table (now (cv .exit)) (now (co .exit)) (now (cm .exit)) (now (vc .exit)) (now (vm .exit)) (now (vp .exit))
-        (r .counts .vertices) (r .counts .corners)) ⌝ }
+    ensures { λ r. ⌜ RunOutcome (now (script .entry)) (now (answers .entry)) (before cv co cm vc vm vp counts)
+        (r .answer) (r .rule) (r .slot) (now (answers .exit)) (after cv co cm vc vm vp (r .counts)) ⌝ }
 {
     let v = checker::check(cv, co, cm, vc, vm, vp, counts);
     say_result(b"check: ", v.answer);

@@ -1,7 +1,7 @@
 // A script of commands on a table.
 ghost use Prim.Native.Nat.{_*_, _≤_};
 ghost use lib.ListN.{length};
-ghost use Rattle.table.specs.Table.{table};
+ghost use Rattle.table.specs.Lent.{lent, before, after};
 ghost use Rattle.table.specs.Rules.{Good};
 ghost use Rattle.script.specs.Commands.{Completed};
 ghost use Rattle.script.specs.Run.{RunOutcome};
@@ -20,12 +20,10 @@ pub fn run_commands(
     answers: &mut [u32],
     n: usize,
 ) -> Counts
-    requires { ⌜ Good (table (now cv) (now co) (now cm) (now vc) (now vm) (now vp) (counts .vertices) (counts .corners)) ⌝ }
+    requires { ⌜ Good (lent cv co cm vc vm vp counts) ⌝ }
     requires { ⌜ 5 * n ≤ length (now script) ⌝ }
-    ensures { λ r. ⌜ Completed (now (script .entry)) n (now (answers .entry)) (now (answers .exit))
-        (table (now (cv .entry)) (now (co .entry)) (now (cm .entry)) (now (vc .entry)) (now (vm .entry)) (now (vp .entry))
-        (counts .vertices) (counts .corners))
-        (table (now (cv .exit)) (now (co .exit)) (now (cm .exit)) (now (vc .exit)) (now (vm .exit)) (now (vp .exit)) (r .vertices) (r .corners)) ⌝ }
+    ensures { λ r. ⌜ Completed (now (script .entry)) n (now (answers .entry)) (now (answers .exit)) (before cv co cm vc vm vp counts)
+        (after cv co cm vc vm vp r) ⌝ }
 {
     let mut vertices = counts.vertices;
     let mut corners = counts.corners;
@@ -70,12 +68,8 @@ pub fn run(
     script: &[u32],
     answers: &mut [u32],
 ) -> Ran
-    ensures { λ r. ⌜ RunOutcome (now (script .entry)) (now (answers .entry))
-        (table (now (cv .entry)) (now (co .entry)) (now (cm .entry)) (now (vc .entry)) (now (vm .entry)) (now (vp .entry))
-        (counts .vertices) (counts .corners))
-        (r .answer) (r .rule) (r .slot) (now (answers .exit))
-        (table (now (cv .exit)) (now (co .exit)) (now (cm .exit)) (now (vc .exit)) (now (vm .exit)) (now (vp .exit))
-        (r .counts .vertices) (r .counts .corners)) ⌝ }
+    ensures { λ r. ⌜ RunOutcome (now (script .entry)) (now (answers .entry)) (before cv co cm vc vm vp counts)
+        (r .answer) (r .rule) (r .slot) (now (answers .exit)) (after cv co cm vc vm vp (r .counts)) ⌝ }
 {
     if table::is_shaped(cv.len(), co.len(), cm.len(), vc.len(), vm.len(), vp.len()) {
         if script_command::fits(script.len(), answers.len()) {

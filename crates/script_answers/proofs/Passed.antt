@@ -1,5 +1,5 @@
 -- A command that answers 0 has passed its checks. This is the one place that takes a chain of checks apart. Assumes nothing.
-use Prim.Native.Nat.{ℕ, _+_, _/_, _<_}
+use Prim.Native.Nat.{ℕ, _+_, _/_, _<_, _≤_}
 use mathlib.Core.Path.{_≡_, refl}
 use mathlib.Core.Logic.{_≢_}
 use mathlib.Core.Bool.{Bool, true, false, not}
@@ -40,9 +40,11 @@ finite-passed p e = not-false _ (when-false (not (finitePoint p)) 4 (omega arith
 room-passed : (t : Table) (n : ℕ) → noRoom t n ≡ 0 → EndFits t n
 unfolding roomFor
 room-passed t n e =
-    let v = ltb-false _ _ (when-false (ltb (vertexRoom t) (t .vertices + 1)) 5 (omega arith) (first-left _ _ e)) in
-    let c = ltb-false _ _ (when-false (ltb (cornerRoom t) (t .corners + n)) 6 (omega arith) (first-right _ _ e)) in
-    record { vertices = omega (arith, v); corners = c }
+    let v : t .vertices + 1 ≤ vertexRoom t = ltb-false _ _ (when-false (ltb (vertexRoom t) (t .vertices + 1)) 5 (omega arith) (first-left _ _ e)) in
+    record {
+      vertices = omega arith;
+      corners = ltb-false _ _ (when-false (ltb (cornerRoom t) (t .corners + n)) 6 (omega arith) (first-right _ _ e));
+    }
 
 pub opposite-there : (t : Table) (c : ℕ) → noOpposite t c ≡ 0 → opposite t c ≢ absent
 opposite-there t c e = eqb-false _ _ (when-false (eqb (opposite t c) absent) 11 (omega arith) e)

@@ -7,13 +7,13 @@ ghost use lib.ListN.{length};
 ghost use Rattle.corner.specs.Corner.{absent};
 ghost use Rattle.table.specs.Table.{table};
 ghost use Rattle.script_answers.specs.Answers.{flipAnswer, collapseAnswer, splitEdgeAnswer, splitFaceAnswer, sameWings};
+use corner::Corner;
+use corner::Face;
 use script_command::corners_for;
 use script_command::first;
 use script_command::room_for;
 use script_command::targeted;
 use script_command::when;
-use corner::Corner;
-use corner::Face;
 use table::Counts;
 use vertex::Point;
 

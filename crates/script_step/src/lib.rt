@@ -3,6 +3,7 @@ ghost use mathlib.Core.List.{List};
 ghost use Prim.Native.Nat.{ℕ};
 ghost use lib.Ieee.{Float};
 ghost use Rattle.table.specs.Table.{table};
+ghost use Rattle.table.specs.Lent.{lent, before, after};
 ghost use Rattle.table.specs.Rules.{Good};
 ghost use Rattle.script_command.specs.declared.Edit.the-variants.{Collapse, Flip, SplitEdge, SplitFace};
 ghost use Rattle.script_step.specs.Stepped.{GoodFour, Stepped};
@@ -50,12 +51,8 @@ pub fn collapse(
     c: Corner,
     p: Point,
 ) -> u32
-    requires { ⌜ Good (table (now cv) (now co) (now cm) (now vc) (now vm) (now vp) (counts .vertices) (counts .corners)) ⌝ }
-    ensures { λ r. ⌜ Stepped
-        (table (now (cv .entry)) (now (co .entry)) (now (cm .entry)) (now (vc .entry)) (now (vm .entry)) (now (vp .entry))
-        (counts .vertices) (counts .corners)) (Collapse c p) r
-        (table (now (cv .exit)) (now (co .exit)) (now (cm .exit)) (now (vc .exit)) (now (vm .exit)) (now (vp .exit))
-        (counts .vertices) (counts .corners)) ⌝ }
+    requires { ⌜ Good (lent cv co cm vc vm vp counts) ⌝ }
+    ensures { λ r. ⌜ Stepped (before cv co cm vc vm vp counts) (Collapse c p) r (after cv co cm vc vm vp counts) ⌝ }
 {
     let a = script_answers::collapse_answer(cv, co, cm, vc, counts.corners, c, p);
     if a != 0 {
@@ -76,12 +73,8 @@ pub fn split_edge(
     c: Corner,
     p: Point,
 ) -> Done
-    requires { ⌜ Good (table (now cv) (now co) (now cm) (now vc) (now vm) (now vp) (counts .vertices) (counts .corners)) ⌝ }
-    ensures { λ r. ⌜ Stepped
-        (table (now (cv .entry)) (now (co .entry)) (now (cm .entry)) (now (vc .entry)) (now (vm .entry)) (now (vp .entry))
-        (counts .vertices) (counts .corners)) (SplitEdge c p) (r .answer)
-        (table (now (cv .exit)) (now (co .exit)) (now (cm .exit)) (now (vc .exit)) (now (vm .exit)) (now (vp .exit))
-        (r .counts .vertices) (r .counts .corners)) ⌝ }
+    requires { ⌜ Good (lent cv co cm vc vm vp counts) ⌝ }
+    ensures { λ r. ⌜ Stepped (before cv co cm vc vm vp counts) (SplitEdge c p) (r .answer) (after cv co cm vc vm vp (r .counts)) ⌝ }
 {
     let a = script_answers::split_edge_answer(co, cm, vm.len(), counts, c, p);
     if a != 0 {
@@ -108,12 +101,8 @@ pub fn split_face(
     f: Face,
     p: Point,
 ) -> Done
-    requires { ⌜ Good (table (now cv) (now co) (now cm) (now vc) (now vm) (now vp) (counts .vertices) (counts .corners)) ⌝ }
-    ensures { λ r. ⌜ Stepped
-        (table (now (cv .entry)) (now (co .entry)) (now (cm .entry)) (now (vc .entry)) (now (vm .entry)) (now (vp .entry))
-        (counts .vertices) (counts .corners)) (SplitFace f p) (r .answer)
-        (table (now (cv .exit)) (now (co .exit)) (now (cm .exit)) (now (vc .exit)) (now (vm .exit)) (now (vp .exit))
-        (r .counts .vertices) (r .counts .corners)) ⌝ }
+    requires { ⌜ Good (lent cv co cm vc vm vp counts) ⌝ }
+    ensures { λ r. ⌜ Stepped (before cv co cm vc vm vp counts) (SplitFace f p) (r .answer) (after cv co cm vc vm vp (r .counts)) ⌝ }
 {
     let a = script_answers::split_face_answer(cm, vm.len(), counts, f, p);
     if a != 0 {
@@ -141,12 +130,8 @@ pub fn step(
     counts: Counts,
     e: Edit,
 ) -> Done
-    requires { ⌜ Good (table (now cv) (now co) (now cm) (now vc) (now vm) (now vp) (counts .vertices) (counts .corners)) ⌝ }
-    ensures { λ r. ⌜ Stepped
-        (table (now (cv .entry)) (now (co .entry)) (now (cm .entry)) (now (vc .entry)) (now (vm .entry)) (now (vp .entry))
-        (counts .vertices) (counts .corners)) e (r .answer)
-        (table (now (cv .exit)) (now (co .exit)) (now (cm .exit)) (now (vc .exit)) (now (vm .exit)) (now (vp .exit))
-        (r .counts .vertices) (r .counts .corners)) ⌝ }
+    requires { ⌜ Good (lent cv co cm vc vm vp counts) ⌝ }
+    ensures { λ r. ⌜ Stepped (before cv co cm vc vm vp counts) e (r .answer) (after cv co cm vc vm vp (r .counts)) ⌝ }
 {
     match e {
         Edit::Collapse(c, p) => {

@@ -4,7 +4,7 @@
 // The parts of a table: the corners' vertices, opposites and marks (cv, co, cm), the vertices' corners, marks and points (vc, vm, vp). The
 // counts, a corner and a vertex go as numbers: C knows no `Counts`, `Corner` or `Vertex`.
 ghost use mathlib.Core.Path.{_≡_};
-ghost use Rattle.table.specs.Table.{table};
+ghost use Rattle.table.specs.Lent.{countsOf, before, after};
 ghost use Rattle.builder_build.specs.Build.{built, build as buildOf};
 ghost use Rattle.checker.specs.Order.{verdictOf};
 ghost use Rattle.script.specs.Run.{RunOutcome};
@@ -75,10 +75,8 @@ pub extern "C" fn strandomir_build(
     points: &[f32],
     faces: &[u32],
 ) -> Built
-    ensures { λ r. ⌜ built (r .answer) (r .skipped)
-        (table (now (cv .exit)) (now (co .exit)) (now (cm .exit)) (now (vc .exit)) (now (vm .exit)) (now (vp .exit)) (r .vertices) (r .corners))
-        ≡ buildOf (table (now (cv .entry)) (now (co .entry)) (now (cm .entry)) (now (vc .entry)) (now (vm .entry)) (now (vp .entry)) vertices corners)
-        (now (points .entry)) (now (faces .entry)) ⌝ }
+    ensures { λ r. ⌜ built (r .answer) (r .skipped) (after cv co cm vc vm vp (countsOf (r .vertices) (r .corners)))
+        ≡ buildOf (before cv co cm vc vm vp (countsOf vertices corners)) (now (points .entry)) (now (faces .entry)) ⌝ }
 {
     let counts = Counts {
         vertices: vertices,
@@ -107,8 +105,7 @@ pub extern "C" fn strandomir_check(
     vertices: u32,
     corners: u32,
 ) -> Checked
-    ensures { λ r. ⌜ verdict r ≡ verdictOf (table (now (cv .entry)) (now (co .entry)) (now (cm .entry)) (now (vc .entry)) (now (vm .entry))
-        (now (vp .entry)) vertices corners) ⌝ }
+    ensures { λ r. ⌜ verdict r ≡ verdictOf (before cv co cm vc vm vp (countsOf vertices corners)) ⌝ }
 {
     let counts = Counts {
         vertices: vertices,
@@ -137,10 +134,8 @@ pub extern "C" fn strandomir_run(
     script: &[u32],
     answers: &mut [u32],
 ) -> Ran
-    ensures { λ r. ⌜ RunOutcome (now (script .entry)) (now (answers .entry))
-        (table (now (cv .entry)) (now (co .entry)) (now (cm .entry)) (now (vc .entry)) (now (vm .entry)) (now (vp .entry)) vertices corners)
-        (r .answer) (r .rule) (r .slot) (now (answers .exit))
-        (table (now (cv .exit)) (now (co .exit)) (now (cm .exit)) (now (vc .exit)) (now (vm .exit)) (now (vp .exit)) (r .vertices) (r .corners)) ⌝ }
+    ensures { λ r. ⌜ RunOutcome (now (script .entry)) (now (answers .entry)) (before cv co cm vc vm vp (countsOf vertices corners))
+        (r .answer) (r .rule) (r .slot) (now (answers .exit)) (after cv co cm vc vm vp (countsOf (r .vertices) (r .corners))) ⌝ }
 {
     let counts = Counts {
         vertices: vertices,
@@ -176,8 +171,7 @@ pub extern "C" fn strandomir_ring_corners(
     vertex: u32,
     list: &mut [u32],
 ) -> Listed
-    ensures { λ r. ⌜ listing r (now (list .exit)) ≡ ringOf Corners vertex
-        (table (now (cv .entry)) (now (co .entry)) (now (cm .entry)) (now (vc .entry)) (now (vm .entry)) (now (vp .entry)) vertices corners)
+    ensures { λ r. ⌜ listing r (now (list .exit)) ≡ ringOf Corners vertex (before cv co cm vc vm vp (countsOf vertices corners))
         (now (list .entry)) ⌝ }
 {
     let counts = Counts {
@@ -206,8 +200,7 @@ pub extern "C" fn strandomir_ring_vertices(
     vertex: u32,
     list: &mut [u32],
 ) -> Listed
-    ensures { λ r. ⌜ listing r (now (list .exit)) ≡ ringOf Vertices vertex
-        (table (now (cv .entry)) (now (co .entry)) (now (cm .entry)) (now (vc .entry)) (now (vm .entry)) (now (vp .entry)) vertices corners)
+    ensures { λ r. ⌜ listing r (now (list .exit)) ≡ ringOf Vertices vertex (before cv co cm vc vm vp (countsOf vertices corners))
         (now (list .entry)) ⌝ }
 {
     let counts = Counts {
@@ -236,8 +229,7 @@ pub extern "C" fn strandomir_ring_faces(
     vertex: u32,
     list: &mut [u32],
 ) -> Listed
-    ensures { λ r. ⌜ listing r (now (list .exit)) ≡ ringOf Faces vertex
-        (table (now (cv .entry)) (now (co .entry)) (now (cm .entry)) (now (vc .entry)) (now (vm .entry)) (now (vp .entry)) vertices corners)
+    ensures { λ r. ⌜ listing r (now (list .exit)) ≡ ringOf Faces vertex (before cv co cm vc vm vp (countsOf vertices corners))
         (now (list .entry)) ⌝ }
 {
     let counts = Counts {
@@ -266,8 +258,7 @@ pub extern "C" fn strandomir_ring_edges(
     vertex: u32,
     list: &mut [u32],
 ) -> Listed
-    ensures { λ r. ⌜ listing r (now (list .exit)) ≡ ringOf Edges vertex
-        (table (now (cv .entry)) (now (co .entry)) (now (cm .entry)) (now (vc .entry)) (now (vm .entry)) (now (vp .entry)) vertices corners)
+    ensures { λ r. ⌜ listing r (now (list .exit)) ≡ ringOf Edges vertex (before cv co cm vc vm vp (countsOf vertices corners))
         (now (list .entry)) ⌝ }
 {
     let counts = Counts {
@@ -296,8 +287,7 @@ pub extern "C" fn strandomir_ring_bounding_edges(
     vertex: u32,
     list: &mut [u32],
 ) -> Listed
-    ensures { λ r. ⌜ listing r (now (list .exit)) ≡ ringOf BoundingEdges vertex
-        (table (now (cv .entry)) (now (co .entry)) (now (cm .entry)) (now (vc .entry)) (now (vm .entry)) (now (vp .entry)) vertices corners)
+    ensures { λ r. ⌜ listing r (now (list .exit)) ≡ ringOf BoundingEdges vertex (before cv co cm vc vm vp (countsOf vertices corners))
         (now (list .entry)) ⌝ }
 {
     let counts = Counts {
@@ -340,8 +330,7 @@ pub extern "C" fn strandomir_move_to_next<'s, 'a>(
     vertices: u32,
     corners: u32,
 ) -> Moved
-    ensures { λ r. ⌜ MovedBy (toNext (table (now (cv .entry)) (now (co .entry)) (now (cm .entry)) (now (vc .entry)) (now (vm .entry))
-        (now (vp .entry)) vertices corners)
+    ensures { λ r. ⌜ MovedBy (toNext (before cv co cm vc vm vp (countsOf vertices corners))
         (now (corner .entry))) r (now (corner .exit)) ⌝ }
 {
     let m = walker::next_from(Corner(*corner), cv, co, cm, vc, vm, vp, vertices, corners);
@@ -363,8 +352,7 @@ pub extern "C" fn strandomir_move_to_previous<'s, 'a>(
     vertices: u32,
     corners: u32,
 ) -> Moved
-    ensures { λ r. ⌜ MovedBy (toPrevious (table (now (cv .entry)) (now (co .entry)) (now (cm .entry)) (now (vc .entry)) (now (vm .entry))
-        (now (vp .entry)) vertices corners)
+    ensures { λ r. ⌜ MovedBy (toPrevious (before cv co cm vc vm vp (countsOf vertices corners))
         (now (corner .entry))) r (now (corner .exit)) ⌝ }
 {
     let m = walker::previous_from(Corner(*corner), cv, co, cm, vc, vm, vp, vertices, corners);
@@ -386,8 +374,7 @@ pub extern "C" fn strandomir_move_to_opposite<'s, 'a>(
     vertices: u32,
     corners: u32,
 ) -> Moved
-    ensures { λ r. ⌜ MovedBy (toOpposite (table (now (cv .entry)) (now (co .entry)) (now (cm .entry)) (now (vc .entry)) (now (vm .entry))
-        (now (vp .entry)) vertices corners)
+    ensures { λ r. ⌜ MovedBy (toOpposite (before cv co cm vc vm vp (countsOf vertices corners))
         (now (corner .entry))) r (now (corner .exit)) ⌝ }
 {
     let m = walker::opposite_from(Corner(*corner), cv, co, cm, vc, vm, vp, vertices, corners);
@@ -409,8 +396,7 @@ pub extern "C" fn strandomir_swing_left_or_stay<'s, 'a>(
     vertices: u32,
     corners: u32,
 ) -> Moved
-    ensures { λ r. ⌜ MovedBy (swungLeft (table (now (cv .entry)) (now (co .entry)) (now (cm .entry)) (now (vc .entry)) (now (vm .entry))
-        (now (vp .entry)) vertices corners)
+    ensures { λ r. ⌜ MovedBy (swungLeft (before cv co cm vc vm vp (countsOf vertices corners))
         (now (corner .entry))) r (now (corner .exit)) ⌝ }
 {
     let m = walker::swing_left_from(Corner(*corner), cv, co, cm, vc, vm, vp, vertices, corners);
@@ -432,8 +418,7 @@ pub extern "C" fn strandomir_swing_right_or_stay<'s, 'a>(
     vertices: u32,
     corners: u32,
 ) -> Moved
-    ensures { λ r. ⌜ MovedBy (swungRight (table (now (cv .entry)) (now (co .entry)) (now (cm .entry)) (now (vc .entry)) (now (vm .entry))
-        (now (vp .entry)) vertices corners)
+    ensures { λ r. ⌜ MovedBy (swungRight (before cv co cm vc vm vp (countsOf vertices corners))
         (now (corner .entry))) r (now (corner .exit)) ⌝ }
 {
     let m = walker::swing_right_from(Corner(*corner), cv, co, cm, vc, vm, vp, vertices, corners);

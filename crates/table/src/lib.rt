@@ -8,7 +8,8 @@ ghost use Prim.Native.Nat.{_+_, _*_, _<_};
 ghost use lib.ListN.{getD, set, length};
 ghost use Rattle.corner.specs.Corner.{absent};
 ghost use Rattle.table.specs.Slots.{vertexAt, oppositeAt, cornerAt, nought, pointAt, withPoint, paired, three, blanked};
-ghost use Rattle.table.specs.Table.{table, blank as blankOf, Shaped, shapedBy, live};
+ghost use Rattle.table.specs.Table.{blank as blankOf, Shaped, shapedBy, live};
+ghost use Rattle.table.specs.Lent.{countsOf, lent, after};
 use corner::Corner;
 use vertex::Point;
 use vertex::Vertex;
@@ -255,12 +256,9 @@ fn blank(
     vm: &mut [u32],
     vp: &mut [f32],
 )
-    ensures { λ r. ⌜ (now (cv .exit) ≡ blanked 0 (now (cv .entry)))
-        × (now (co .exit) ≡ blanked absent (now (co .entry)))
-        × (now (cm .exit) ≡ blanked 0 (now (cm .entry)))
-        × (now (vc .exit) ≡ blanked absent (now (vc .entry)))
-        × (now (vm .exit) ≡ blanked 0 (now (vm .entry)))
-        × (now (vp .exit) ≡ blanked nought (now (vp .entry))) ⌝ }
+    ensures { λ r. ⌜ (now (cv .exit) ≡ blanked 0 (now (cv .entry))) × (now (co .exit) ≡ blanked absent (now (co .entry)))
+        × (now (cm .exit) ≡ blanked 0 (now (cm .entry))) × (now (vc .exit) ≡ blanked absent (now (vc .entry)))
+        × (now (vm .exit) ≡ blanked 0 (now (vm .entry))) × (now (vp .exit) ≡ blanked nought (now (vp .entry))) ⌝ }
 {
     fill(cv, 0);
     fill(co, 4294967295);
@@ -279,10 +277,8 @@ pub fn clear(
     vm: &mut [u32],
     vp: &mut [f32],
 ) -> Counts
-    requires { ⌜ Shaped (table (now cv) (now co) (now cm) (now vc) (now vm) (now vp) 0 0) ⌝ }
-    ensures { λ r. ⌜ table (now (cv .exit)) (now (co .exit)) (now (cm .exit)) (now (vc .exit)) (now (vm .exit)) (now (vp .exit))
-        (r .vertices) (r .corners)
-        ≡ blankOf (length (now (cm .entry))) (length (now (vm .entry))) ⌝ }
+    requires { ⌜ Shaped (lent cv co cm vc vm vp (countsOf 0 0)) ⌝ }
+    ensures { λ r. ⌜ after cv co cm vc vm vp r ≡ blankOf (length (now (cm .entry))) (length (now (vm .entry))) ⌝ }
 {
     blank(cv, co, cm, vc, vm, vp);
     Counts {

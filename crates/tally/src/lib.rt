@@ -1,6 +1,6 @@
 // Vertices, edges and faces of a table, counted.
 ghost use mathlib.Core.Path.{_≡_};
-ghost use Rattle.table.specs.Table.{table};
+ghost use Rattle.table.specs.Lent.{before};
 ghost use Rattle.table.specs.Euler.{count, vertexCount, faceCount, bareCount, edgeCount};
 ghost use Rattle.tally.specs.Tally.{passes as passesOf, bare as bareOf, paired as pairedOf};
 ghost use Rattle.tally.specs.Commands.{kindOf, ofKind};
@@ -80,14 +80,9 @@ pub fn tally(
     vp: &[f32],
     counts: Counts,
 ) -> Sizes
-    ensures { λ r. ⌜ (r .vertices ≡ vertexCount (table (now (cv .entry)) (now (co .entry)) (now (cm .entry)) (now (vc .entry)) (now (vm .entry))
-        (now (vp .entry)) (counts .vertices) (counts .corners)))
-        × (r .edges ≡ edgeCount (table (now (cv .entry)) (now (co .entry)) (now (cm .entry)) (now (vc .entry)) (now (vm .entry)) (now (vp .entry))
-        (counts .vertices) (counts .corners)))
-        × (r .faces ≡ faceCount (table (now (cv .entry)) (now (co .entry)) (now (cm .entry)) (now (vc .entry)) (now (vm .entry)) (now (vp .entry))
-        (counts .vertices) (counts .corners)))
-        × (r .border ≡ bareCount (table (now (cv .entry)) (now (co .entry)) (now (cm .entry)) (now (vc .entry)) (now (vm .entry)) (now (vp .entry))
-        (counts .vertices) (counts .corners))) ⌝ }
+    ensures { λ r. ⌜ (r .vertices ≡ vertexCount (before cv co cm vc vm vp counts))
+        × (r .edges ≡ edgeCount (before cv co cm vc vm vp counts)) × (r .faces ≡ faceCount (before cv co cm vc vm vp counts))
+        × (r .border ≡ bareCount (before cv co cm vc vm vp counts)) ⌝ }
 {
     let nv = counts.vertices;
     let nc = counts.corners;

@@ -3,23 +3,23 @@
 ghost use mathlib.Core.Path.{_≡_};
 ghost use mathlib.Core.List.{List};
 ghost use Prim.Native.Nat.{ℕ};
-ghost use Rattle.table.specs.Table.{table};
+ghost use Rattle.table.specs.Lent.{before};
 ghost use Rattle.traversal_lists.specs.Reached.{Fit};
 ghost use Rattle.traversal_lists.specs.Outcome.{outcome};
 ghost use Rattle.traversal_lists.specs.declared.Kind.{Kind};
 ghost use Rattle.traversal_lists.specs.declared.Kind.the-variants.{Corners, Vertices, Faces, Edges, BoundingEdges};
 ghost use Rattle.traversal.specs.Ring.{begun, ringOf};
 use corner::Corner;
-use traversal_lists::Kind;
-use traversal_lists::Ring;
-use traversal_lists::refused;
-use traversal_short::ring_from;
 use table::Counts;
 use table::at;
 use table::corner_of;
 use table::is_shaped;
-use vertex::Vertex;
+use traversal_lists::Kind;
+use traversal_lists::Ring;
+use traversal_lists::refused;
+use traversal_short::ring_from;
 use traversal_visits::used_slots;
+use vertex::Vertex;
 
 // What stands before a walk: the answer 1, 9 or 10; or 0, and where it begins.
 struct Start {
@@ -49,9 +49,7 @@ fn start_of(
     counts: Counts,
     vertex: Vertex,
 ) -> Start
-    ensures { λ r. ⌜ ((kind : Kind) (list : List ℕ) → ringOf kind (vertex .0)
-        (table (now (cv .entry)) (now (co .entry)) (now (cm .entry)) (now (vc .entry)) (now (vm .entry)) (now (vp .entry))
-        (counts .vertices) (counts .corners)) list
+    ensures { λ r. ⌜ ((kind : Kind) (list : List ℕ) → ringOf kind (vertex .0) (before cv co cm vc vm vp counts) list
         ≡ begun kind (now (cv .entry)) (now (co .entry)) (now (cm .entry)) (r .answer) (r .used) (r .corner .0) list)
         × (r .answer ≡ 0 → Fit (now (cv .entry)) (now (co .entry)) (now (cm .entry)) (r .used)) ⌝ }
 {
@@ -85,9 +83,7 @@ pub fn ring_corners(
     vertex: Vertex,
     list: &mut [u32],
 ) -> Ring
-    ensures { λ r. ⌜ outcome r (now (list .exit)) ≡ ringOf Corners (vertex .0)
-        (table (now (cv .entry)) (now (co .entry)) (now (cm .entry)) (now (vc .entry)) (now (vm .entry)) (now (vp .entry))
-        (counts .vertices) (counts .corners)) (now (list .entry)) ⌝ }
+    ensures { λ r. ⌜ outcome r (now (list .exit)) ≡ ringOf Corners (vertex .0) (before cv co cm vc vm vp counts) (now (list .entry)) ⌝ }
 {
     let s = start_of(cv, co, cm, vc, vm, vp, counts, vertex);
     if s.answer == 0 {
@@ -108,9 +104,7 @@ pub fn ring_vertices(
     vertex: Vertex,
     list: &mut [u32],
 ) -> Ring
-    ensures { λ r. ⌜ outcome r (now (list .exit)) ≡ ringOf Vertices (vertex .0)
-        (table (now (cv .entry)) (now (co .entry)) (now (cm .entry)) (now (vc .entry)) (now (vm .entry)) (now (vp .entry))
-        (counts .vertices) (counts .corners)) (now (list .entry)) ⌝ }
+    ensures { λ r. ⌜ outcome r (now (list .exit)) ≡ ringOf Vertices (vertex .0) (before cv co cm vc vm vp counts) (now (list .entry)) ⌝ }
 {
     let s = start_of(cv, co, cm, vc, vm, vp, counts, vertex);
     if s.answer == 0 {
@@ -131,9 +125,7 @@ pub fn ring_faces(
     vertex: Vertex,
     list: &mut [u32],
 ) -> Ring
-    ensures { λ r. ⌜ outcome r (now (list .exit)) ≡ ringOf Faces (vertex .0)
-        (table (now (cv .entry)) (now (co .entry)) (now (cm .entry)) (now (vc .entry)) (now (vm .entry)) (now (vp .entry))
-        (counts .vertices) (counts .corners)) (now (list .entry)) ⌝ }
+    ensures { λ r. ⌜ outcome r (now (list .exit)) ≡ ringOf Faces (vertex .0) (before cv co cm vc vm vp counts) (now (list .entry)) ⌝ }
 {
     let s = start_of(cv, co, cm, vc, vm, vp, counts, vertex);
     if s.answer == 0 {
@@ -154,9 +146,7 @@ pub fn ring_edges(
     vertex: Vertex,
     list: &mut [u32],
 ) -> Ring
-    ensures { λ r. ⌜ outcome r (now (list .exit)) ≡ ringOf Edges (vertex .0)
-        (table (now (cv .entry)) (now (co .entry)) (now (cm .entry)) (now (vc .entry)) (now (vm .entry)) (now (vp .entry))
-        (counts .vertices) (counts .corners)) (now (list .entry)) ⌝ }
+    ensures { λ r. ⌜ outcome r (now (list .exit)) ≡ ringOf Edges (vertex .0) (before cv co cm vc vm vp counts) (now (list .entry)) ⌝ }
 {
     let s = start_of(cv, co, cm, vc, vm, vp, counts, vertex);
     if s.answer == 0 {
@@ -178,8 +168,7 @@ pub fn ring_bounding_edges(
     list: &mut [u32],
 ) -> Ring
     ensures { λ r. ⌜ outcome r (now (list .exit)) ≡ ringOf BoundingEdges (vertex .0)
-        (table (now (cv .entry)) (now (co .entry)) (now (cm .entry)) (now (vc .entry)) (now (vm .entry)) (now (vp .entry))
-        (counts .vertices) (counts .corners)) (now (list .entry)) ⌝ }
+        (before cv co cm vc vm vp counts) (now (list .entry)) ⌝ }
 {
     let s = start_of(cv, co, cm, vc, vm, vp, counts, vertex);
     if s.answer == 0 {

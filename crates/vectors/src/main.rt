@@ -6,14 +6,14 @@ ghost use lib.ListN.{length};
 ghost use Rattle.vectors.specs.Places.{placeOf};
 use flag::both;
 use libc::STDOUT_FILENO;
+use table::Counts;
+use table::at;
+use vectors_changes::Rooms;
 use words::bump;
 use words::first;
 use words::least;
 use words::one_unless;
 use words::past;
-use vectors_changes::Rooms;
-use table::Counts;
-use table::at;
 
 // ---- the list: 25 buffers of 65,536 bytes hold more than the largest
 
@@ -106,7 +106,20 @@ fn play(
         let n = at(words, from + 1, 0) as usize;
         let w = first(past(words, from + 2), n);
         rooms = vectors_changes::rooms_after(op, w, rooms);
-        let left = vectors_record::replay(op, rooms, cv, co, cm, vc, vm, vp, counts, w, numbers, list);
+        let left = vectors_record::replay(
+            op,
+            rooms,
+            cv,
+            co,
+            cm,
+            vc,
+            vm,
+            vp,
+            counts,
+            w,
+            numbers,
+            list,
+        );
         counts = left.counts;
         bad += told(left.wrong, w.len() == n, k, op);
         k += 1;

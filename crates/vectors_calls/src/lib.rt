@@ -1,7 +1,7 @@
 // The records of the stored list that call the build and the run: what comes out is held to what they list.
 ghost use mathlib.Core.Path.{_≡_};
 ghost use lib.ListN.{length};
-ghost use Rattle.table.specs.Table.{table};
+ghost use Rattle.table.specs.Lent.{before, after};
 ghost use Rattle.vectors_changes.specs.Change.{played};
 ghost use Rattle.vectors_calls.specs.Calls.{
   facesOf,
@@ -18,17 +18,17 @@ ghost use Rattle.vectors_calls.specs.Calls.{
   runLeft,
 };
 use flag::both;
+use table::Counts;
+use table::at;
+use table::fill;
+use vectors_changes::Left;
+use vectors_looks::three_are;
+use vectors_looks::two_are;
 use words::first;
 use words::holds;
 use words::one_unless;
 use words::past;
 use words::put_numbers;
-use vectors_changes::Left;
-use vectors_looks::three_are;
-use vectors_looks::two_are;
-use table::Counts;
-use table::at;
-use table::fill;
 
 // ---- 4 build
 
@@ -67,11 +67,8 @@ pub fn replay_build(
     w: &[u32],
     numbers: &mut [f32],
 ) -> Left
-    ensures { λ r. ⌜ played (r .wrong)
-        (table (now (cv .exit)) (now (co .exit)) (now (cm .exit)) (now (vc .exit)) (now (vm .exit)) (now (vp .exit))
-        (r .counts .vertices) (r .counts .corners))
-        ≡ buildLeft (table (now (cv .entry)) (now (co .entry)) (now (cm .entry)) (now (vc .entry)) (now (vm .entry)) (now (vp .entry))
-        (counts .vertices) (counts .corners)) (now (w .entry)) (length (now (numbers .entry))) ⌝ }
+    ensures { λ r. ⌜ played (r .wrong) (after cv co cm vc vm vp (r .counts))
+        ≡ buildLeft (before cv co cm vc vm vp counts) (now (w .entry)) (length (now (numbers .entry))) ⌝ }
 {
     put_numbers(past(w, 5), 0, numbers);
     let b = builder::build(cv, co, cm, vc, vm, vp, counts, numbers, faces_of(w));
@@ -148,11 +145,8 @@ pub fn replay_run(
     w: &[u32],
     answers: &mut [u32],
 ) -> Left
-    ensures { λ r. ⌜ played (r .wrong)
-        (table (now (cv .exit)) (now (co .exit)) (now (cm .exit)) (now (vc .exit)) (now (vm .exit)) (now (vp .exit))
-        (r .counts .vertices) (r .counts .corners))
-        ≡ runLeft (table (now (cv .entry)) (now (co .entry)) (now (cm .entry)) (now (vc .entry)) (now (vm .entry)) (now (vp .entry))
-        (counts .vertices) (counts .corners)) (now (w .entry)) (length (now (answers .entry))) ⌝ }
+    ensures { λ r. ⌜ played (r .wrong) (after cv co cm vc vm vp (r .counts))
+        ≡ runLeft (before cv co cm vc vm vp counts) (now (w .entry)) (length (now (answers .entry))) ⌝ }
 {
     fill(answers, answer_fill(w));
     let b = script::run(cv, co, cm, vc, vm, vp, counts, script_of(w), answers);

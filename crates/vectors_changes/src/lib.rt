@@ -1,7 +1,7 @@
 // The records of the stored list that change the table themselves: new rooms, the counts, one entry of a part.
 ghost use mathlib.Core.Path.{_≡_};
 ghost use lib.ListN.{getD};
-ghost use Rattle.table.specs.Table.{table};
+ghost use Rattle.table.specs.Lent.{before, after};
 ghost use Rattle.words.specs.Same.{oneUnless};
 ghost use Rattle.vectors_changes.specs.Change.{
   played,
@@ -18,13 +18,13 @@ ghost use Rattle.vectors_changes.specs.Change.{
   putLeft,
 };
 use flag::both;
-use words::one_unless;
-use words::put_numbers;
 use table::Counts;
 use table::at;
 use table::fill;
 use table::put;
 use table::put_float;
+use words::one_unless;
+use words::put_numbers;
 
 // The lengths of the six parts.
 pub struct Rooms {
@@ -99,9 +99,7 @@ pub fn replay_rooms(
     vp: &mut [f32],
     w: &[u32],
 ) -> Left
-    ensures { λ r. ⌜ played (r .wrong)
-        (table (now (cv .exit)) (now (co .exit)) (now (cm .exit)) (now (vc .exit)) (now (vm .exit)) (now (vp .exit))
-        (r .counts .vertices) (r .counts .corners))
+    ensures { λ r. ⌜ played (r .wrong) (after cv co cm vc vm vp (r .counts))
         ≡ roomsLeft (now (cv .entry)) (now (co .entry)) (now (cm .entry)) (now (vc .entry)) (now (vm .entry)) (now (vp .entry))
         (now (w .entry)) ⌝ }
 {
@@ -170,11 +168,8 @@ pub fn replay_put(
     counts: Counts,
     w: &[u32],
 ) -> Left
-    ensures { λ r. ⌜ played (r .wrong)
-        (table (now (cv .exit)) (now (co .exit)) (now (cm .exit)) (now (vc .exit)) (now (vm .exit)) (now (vp .exit))
-        (r .counts .vertices) (r .counts .corners))
-        ≡ putLeft (table (now (cv .entry)) (now (co .entry)) (now (cm .entry)) (now (vc .entry)) (now (vm .entry)) (now (vp .entry))
-        (counts .vertices) (counts .corners)) (now (w .entry)) ⌝ }
+    ensures { λ r. ⌜ played (r .wrong) (after cv co cm vc vm vp (r .counts))
+        ≡ putLeft (before cv co cm vc vm vp counts) (now (w .entry)) ⌝ }
 {
     put_in(w, 0, cv);
     put_in(w, 1, co);

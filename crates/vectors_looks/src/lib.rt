@@ -2,7 +2,7 @@
 // it lists.
 ghost use mathlib.Core.Path.{_≡_};
 ghost use lib.ListN.{length};
-ghost use Rattle.table.specs.Table.{table};
+ghost use Rattle.table.specs.Lent.{countsOf, before};
 ghost use Rattle.traversal_lists.specs.Outcome.{outcome};
 ghost use Rattle.traversal.specs.Ring.{ringOf};
 ghost use Rattle.words.specs.Same.{oneUnless};
@@ -25,17 +25,17 @@ ghost use Rattle.vectors_looks.specs.Look.{
 };
 use corner::Corner;
 use flag::both;
+use table::Counts;
+use table::at;
+use table::fill;
 use traversal_lists::Ring;
+use vertex::Vertex;
+use walker::Moved;
 use words::first;
 use words::hold_numbers;
 use words::holds;
 use words::one_unless;
 use words::past;
-use table::Counts;
-use table::at;
-use table::fill;
-use vertex::Vertex;
-use walker::Moved;
 
 // ---- what is listed
 
@@ -103,9 +103,7 @@ fn replay_check(
     counts: Counts,
     w: &[u32],
 ) -> u32
-    ensures { λ r. ⌜ r ≡ oneUnless (checkRight
-        (table (now (cv .entry)) (now (co .entry)) (now (cm .entry)) (now (vc .entry)) (now (vm .entry)) (now (vp .entry))
-        (counts .vertices) (counts .corners)) (now (w .entry))) ⌝ }
+    ensures { λ r. ⌜ r ≡ oneUnless (checkRight (before cv co cm vc vm vp counts) (now (w .entry))) ⌝ }
 {
     let v = checker::check(cv, co, cm, vc, vm, vp, counts);
     one_unless(both(checked_as(v, w), w.len() == 3))
@@ -126,8 +124,7 @@ fn ring_of(
     list: &mut [u32],
 ) -> Ring
     ensures { λ r. ⌜ outcome r (now (list .exit)) ≡ ringOf (ringKindOf kind) (vertex .0)
-        (table (now (cv .entry)) (now (co .entry)) (now (cm .entry)) (now (vc .entry)) (now (vm .entry)) (now (vp .entry))
-        (counts .vertices) (counts .corners)) (now (list .entry)) ⌝ }
+        (before cv co cm vc vm vp counts) (now (list .entry)) ⌝ }
 {
     if kind == 0 {
         return traversal::ring_corners(cv, co, cm, vc, vm, vp, counts, vertex, list);
@@ -164,9 +161,7 @@ fn replay_ring(
     w: &[u32],
     list: &mut [u32],
 ) -> u32
-    ensures { λ r. ⌜ r ≡ oneUnless (ringRight
-        (table (now (cv .entry)) (now (co .entry)) (now (cm .entry)) (now (vc .entry)) (now (vm .entry)) (now (vp .entry))
-        (counts .vertices) (counts .corners)) (length (now (list .entry))) (now (w .entry))) ⌝ }
+    ensures { λ r. ⌜ r ≡ oneUnless (ringRight (before cv co cm vc vm vp counts) (length (now (list .entry))) (now (w .entry))) ⌝ }
 {
     fill(list, at(w, 6, 0));
     let b = ring_of(
@@ -198,8 +193,7 @@ fn move_of<'a>(
     vertices: u32,
     corners: u32,
 ) -> Moved
-    ensures { λ r. ⌜ r ≡ moveOf kind (table (now (cv .entry)) (now (co .entry)) (now (cm .entry)) (now (vc .entry)) (now (vm .entry))
-        (now (vp .entry)) vertices corners) (corner .0) ⌝ }
+    ensures { λ r. ⌜ r ≡ moveOf kind (before cv co cm vc vm vp (countsOf vertices corners)) (corner .0) ⌝ }
 {
     if kind == 0 {
         return vectors_moves::moved_to_next(corner, cv, co, cm, vc, vm, vp, vertices, corners);
@@ -226,9 +220,7 @@ fn replay_move<'a>(
     counts: Counts,
     w: &[u32],
 ) -> u32
-    ensures { λ r. ⌜ r ≡ oneUnless (moveRight
-        (table (now (cv .entry)) (now (co .entry)) (now (cm .entry)) (now (vc .entry)) (now (vm .entry)) (now (vp .entry))
-        (counts .vertices) (counts .corners)) (now (w .entry))) ⌝ }
+    ensures { λ r. ⌜ r ≡ oneUnless (moveRight (before cv co cm vc vm vp counts) (now (w .entry))) ⌝ }
 {
     let kind = at(w, 0, 0);
     let corner = Corner(at(w, 1, 0));
@@ -332,9 +324,7 @@ pub fn look<'a>(
     w: &[u32],
     list: &mut [u32],
 ) -> u32
-    ensures { λ r. ⌜ r ≡ oneUnless (lookRight op
-        (table (now (cv .entry)) (now (co .entry)) (now (cm .entry)) (now (vc .entry)) (now (vm .entry)) (now (vp .entry))
-        (counts .vertices) (counts .corners)) (length (now (list .entry))) (now (w .entry))) ⌝ }
+    ensures { λ r. ⌜ r ≡ oneUnless (lookRight op (before cv co cm vc vm vp counts) (length (now (list .entry))) (now (w .entry))) ⌝ }
 {
     if op == 5 {
         return replay_check(cv, co, cm, vc, vm, vp, counts, w);

@@ -1,7 +1,7 @@
 // The five moves on a corner, each by a walker that is made here, lent to `walker` as `&mut`, and read afterwards: so the records of
 // moves are played by the moves in place.
 ghost use mathlib.Core.Path.{_≡_};
-ghost use Rattle.table.specs.Table.{table};
+ghost use Rattle.table.specs.Lent.{countsOf, before};
 ghost use Rattle.walker.specs.Walker.{toNext, toPrevious, toOpposite, swungLeft, swungRight};
 use corner::Corner;
 use walker::Moved;
@@ -18,8 +18,7 @@ pub fn moved_to_next<'a>(
     vertices: u32,
     corners: u32,
 ) -> Moved
-    ensures { λ r. ⌜ r ≡ toNext (table (now (cv .entry)) (now (co .entry)) (now (cm .entry)) (now (vc .entry)) (now (vm .entry))
-        (now (vp .entry)) vertices corners) (corner .0) ⌝ }
+    ensures { λ r. ⌜ r ≡ toNext (before cv co cm vc vm vp (countsOf vertices corners)) (corner .0) ⌝ }
 {
     let mut w = Walker { corner: corner };
     let s = walker::move_to_next(&mut w, cv, co, cm, vc, vm, vp, vertices, corners);
@@ -40,8 +39,7 @@ pub fn moved_to_previous<'a>(
     vertices: u32,
     corners: u32,
 ) -> Moved
-    ensures { λ r. ⌜ r ≡ toPrevious (table (now (cv .entry)) (now (co .entry)) (now (cm .entry)) (now (vc .entry)) (now (vm .entry))
-        (now (vp .entry)) vertices corners) (corner .0) ⌝ }
+    ensures { λ r. ⌜ r ≡ toPrevious (before cv co cm vc vm vp (countsOf vertices corners)) (corner .0) ⌝ }
 {
     let mut w = Walker { corner: corner };
     let s = walker::move_to_previous(&mut w, cv, co, cm, vc, vm, vp, vertices, corners);
@@ -62,8 +60,7 @@ pub fn moved_to_opposite<'a>(
     vertices: u32,
     corners: u32,
 ) -> Moved
-    ensures { λ r. ⌜ r ≡ toOpposite (table (now (cv .entry)) (now (co .entry)) (now (cm .entry)) (now (vc .entry)) (now (vm .entry))
-        (now (vp .entry)) vertices corners) (corner .0) ⌝ }
+    ensures { λ r. ⌜ r ≡ toOpposite (before cv co cm vc vm vp (countsOf vertices corners)) (corner .0) ⌝ }
 {
     let mut w = Walker { corner: corner };
     let s = walker::move_to_opposite(&mut w, cv, co, cm, vc, vm, vp, vertices, corners);
@@ -84,8 +81,7 @@ pub fn swung_left<'a>(
     vertices: u32,
     corners: u32,
 ) -> Moved
-    ensures { λ r. ⌜ r ≡ swungLeft (table (now (cv .entry)) (now (co .entry)) (now (cm .entry)) (now (vc .entry)) (now (vm .entry))
-        (now (vp .entry)) vertices corners) (corner .0) ⌝ }
+    ensures { λ r. ⌜ r ≡ swungLeft (before cv co cm vc vm vp (countsOf vertices corners)) (corner .0) ⌝ }
 {
     let mut w = Walker { corner: corner };
     let s = walker::swing_left_or_stay(&mut w, cv, co, cm, vc, vm, vp, vertices, corners);
@@ -106,8 +102,7 @@ pub fn swung_right<'a>(
     vertices: u32,
     corners: u32,
 ) -> Moved
-    ensures { λ r. ⌜ r ≡ swungRight (table (now (cv .entry)) (now (co .entry)) (now (cm .entry)) (now (vc .entry)) (now (vm .entry))
-        (now (vp .entry)) vertices corners) (corner .0) ⌝ }
+    ensures { λ r. ⌜ r ≡ swungRight (before cv co cm vc vm vp (countsOf vertices corners)) (corner .0) ⌝ }
 {
     let mut w = Walker { corner: corner };
     let s = walker::swing_right_or_stay(&mut w, cv, co, cm, vc, vm, vp, vertices, corners);

@@ -4,7 +4,7 @@
 ghost use mathlib.Core.Path.{_≡_};
 ghost use Prim.Native.Nat.{min};
 ghost use lib.ListN.{length};
-ghost use Rattle.table.specs.Table.{table};
+ghost use Rattle.table.specs.Lent.{before, after};
 ghost use Rattle.vectors_changes.specs.Change.{played};
 ghost use Rattle.vectors_record.specs.Record.{recordLeft};
 ghost use Rattle.vectors_record.specs.Replay.{numberCount, listCount, Replayed};
@@ -35,11 +35,8 @@ pub fn play(
     numbers: &mut [f32],
     list: &mut [u32],
 ) -> Left
-    ensures { λ r. ⌜ played (r .wrong)
-        (table (now (cv .exit)) (now (co .exit)) (now (cm .exit)) (now (vc .exit)) (now (vm .exit)) (now (vp .exit))
-        (r .counts .vertices) (r .counts .corners))
-        ≡ recordLeft op (table (now (cv .entry)) (now (co .entry)) (now (cm .entry)) (now (vc .entry)) (now (vm .entry)) (now (vp .entry))
-        (counts .vertices) (counts .corners)) (now (w .entry)) (length (now (numbers .entry))) (length (now (list .entry))) ⌝ }
+    ensures { λ r. ⌜ played (r .wrong) (after cv co cm vc vm vp (r .counts))
+        ≡ recordLeft op (before cv co cm vc vm vp counts) (now (w .entry)) (length (now (numbers .entry))) (length (now (list .entry))) ⌝ }
 {
     if op == 1 {
         return replay_rooms(cv, co, cm, vc, vm, vp, w);
@@ -94,14 +91,9 @@ pub fn replay(
     numbers: &mut [f32],
     list: &mut [u32],
 ) -> Left
-    ensures { λ r. ⌜ Replayed n op
-        (table (now (cv .entry)) (now (co .entry)) (now (cm .entry)) (now (vc .entry)) (now (vm .entry)) (now (vp .entry))
-        (counts .vertices) (counts .corners))
+    ensures { λ r. ⌜ Replayed n op (before cv co cm vc vm vp counts)
         (now (w .entry)) (min (numberCount op (now (w .entry))) (length (now (numbers .entry))))
-        (min (listCount op (now (w .entry))) (length (now (list .entry))))
-        (r .wrong)
-        (table (now (cv .exit)) (now (co .exit)) (now (cm .exit)) (now (vc .exit)) (now (vm .exit)) (now (vp .exit))
-        (r .counts .vertices) (r .counts .corners)) ⌝ }
+        (min (listCount op (now (w .entry))) (length (now (list .entry)))) (r .wrong) (after cv co cm vc vm vp (r .counts)) ⌝ }
 {
     let a = least(n.cv as usize, cv.len());
     let b = least(n.co as usize, co.len());

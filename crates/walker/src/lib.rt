@@ -3,7 +3,7 @@
 // The lent table goes beside it. Each move is a function on the corner (`next_from` and so on); the walker's own move is thin over it.
 ghost use mathlib.Core.Path.{_≡_};
 ghost use mathlib.Core.Bool.{true, false};
-ghost use Rattle.table.specs.Table.{table};
+ghost use Rattle.table.specs.Lent.{countsOf, before};
 ghost use Rattle.walker.specs.Walker.{stays, arrives, standing as standingOf, refusal as refusalOf, stepTo, stepOver, swingTo, toNext, toPrevious, toOpposite, swungLeft, swungRight};
 use corner::Corner;
 use table::at;
@@ -122,8 +122,7 @@ fn refusal(
     vertices: u32,
     corners: u32,
 ) -> u32
-    ensures { λ r. ⌜ r ≡ refusalOf (table (now (cv .entry)) (now (co .entry)) (now (cm .entry)) (now (vc .entry)) (now (vm .entry))
-        (now (vp .entry)) vertices corners) (corner .0) ⌝ }
+    ensures { λ r. ⌜ r ≡ refusalOf (before cv co cm vc vm vp (countsOf vertices corners)) (corner .0) ⌝ }
 {
     if is_shaped(cv.len(), co.len(), cm.len(), vc.len(), vm.len(), vp.len()) {
         return standing(cm, corners, corner);
@@ -144,8 +143,7 @@ pub fn next_from<'a>(
     vertices: u32,
     corners: u32,
 ) -> Moved
-    ensures { λ r. ⌜ r ≡ toNext (table (now (cv .entry)) (now (co .entry)) (now (cm .entry)) (now (vc .entry)) (now (vm .entry))
-        (now (vp .entry)) vertices corners) (corner .0) ⌝ }
+    ensures { λ r. ⌜ r ≡ toNext (before cv co cm vc vm vp (countsOf vertices corners)) (corner .0) ⌝ }
 {
     let a = refusal(corner, cv, co, cm, vc, vm, vp, vertices, corners);
     if a == 0 {
@@ -165,8 +163,7 @@ pub fn previous_from<'a>(
     vertices: u32,
     corners: u32,
 ) -> Moved
-    ensures { λ r. ⌜ r ≡ toPrevious (table (now (cv .entry)) (now (co .entry)) (now (cm .entry)) (now (vc .entry)) (now (vm .entry))
-        (now (vp .entry)) vertices corners) (corner .0) ⌝ }
+    ensures { λ r. ⌜ r ≡ toPrevious (before cv co cm vc vm vp (countsOf vertices corners)) (corner .0) ⌝ }
 {
     let a = refusal(corner, cv, co, cm, vc, vm, vp, vertices, corners);
     if a == 0 {
@@ -186,8 +183,7 @@ pub fn opposite_from<'a>(
     vertices: u32,
     corners: u32,
 ) -> Moved
-    ensures { λ r. ⌜ r ≡ toOpposite (table (now (cv .entry)) (now (co .entry)) (now (cm .entry)) (now (vc .entry)) (now (vm .entry))
-        (now (vp .entry)) vertices corners) (corner .0) ⌝ }
+    ensures { λ r. ⌜ r ≡ toOpposite (before cv co cm vc vm vp (countsOf vertices corners)) (corner .0) ⌝ }
 {
     let a = refusal(corner, cv, co, cm, vc, vm, vp, vertices, corners);
     if a == 0 {
@@ -207,8 +203,7 @@ pub fn swing_left_from<'a>(
     vertices: u32,
     corners: u32,
 ) -> Moved
-    ensures { λ r. ⌜ r ≡ swungLeft (table (now (cv .entry)) (now (co .entry)) (now (cm .entry)) (now (vc .entry)) (now (vm .entry))
-        (now (vp .entry)) vertices corners) (corner .0) ⌝ }
+    ensures { λ r. ⌜ r ≡ swungLeft (before cv co cm vc vm vp (countsOf vertices corners)) (corner .0) ⌝ }
 {
     let a = refusal(corner, cv, co, cm, vc, vm, vp, vertices, corners);
     if a == 0 {
@@ -228,8 +223,7 @@ pub fn swing_right_from<'a>(
     vertices: u32,
     corners: u32,
 ) -> Moved
-    ensures { λ r. ⌜ r ≡ swungRight (table (now (cv .entry)) (now (co .entry)) (now (cm .entry)) (now (vc .entry)) (now (vm .entry))
-        (now (vp .entry)) vertices corners) (corner .0) ⌝ }
+    ensures { λ r. ⌜ r ≡ swungRight (before cv co cm vc vm vp (countsOf vertices corners)) (corner .0) ⌝ }
 {
     let a = refusal(corner, cv, co, cm, vc, vm, vp, vertices, corners);
     if a == 0 {
@@ -251,10 +245,8 @@ pub fn move_to_next<'s, 'a>(
     vertices: u32,
     corners: u32,
 ) -> Step
-    ensures { λ r. ⌜ (r ≡ toNext (table (now (cv .entry)) (now (co .entry)) (now (cm .entry)) (now (vc .entry)) (now (vm .entry))
-        (now (vp .entry)) vertices corners) (now (walker .entry) .corner .0) .step)
-        × (now (walker .exit) .corner ≡ toNext (table (now (cv .entry)) (now (co .entry)) (now (cm .entry)) (now (vc .entry)) (now (vm .entry))
-        (now (vp .entry)) vertices corners) (now (walker .entry) .corner .0) .corner) ⌝ }
+    ensures { λ r. ⌜ (r ≡ toNext (before cv co cm vc vm vp (countsOf vertices corners)) (now (walker .entry) .corner .0) .step)
+        × (now (walker .exit) .corner ≡ toNext (before cv co cm vc vm vp (countsOf vertices corners)) (now (walker .entry) .corner .0) .corner) ⌝ }
 {
     let m = next_from(walker.corner, cv, co, cm, vc, vm, vp, vertices, corners);
     walker.corner = m.corner;
@@ -272,10 +264,8 @@ pub fn move_to_previous<'s, 'a>(
     vertices: u32,
     corners: u32,
 ) -> Step
-    ensures { λ r. ⌜ (r ≡ toPrevious (table (now (cv .entry)) (now (co .entry)) (now (cm .entry)) (now (vc .entry)) (now (vm .entry))
-        (now (vp .entry)) vertices corners) (now (walker .entry) .corner .0) .step)
-        × (now (walker .exit) .corner ≡ toPrevious (table (now (cv .entry)) (now (co .entry)) (now (cm .entry)) (now (vc .entry)) (now (vm .entry))
-        (now (vp .entry)) vertices corners) (now (walker .entry) .corner .0) .corner) ⌝ }
+    ensures { λ r. ⌜ (r ≡ toPrevious (before cv co cm vc vm vp (countsOf vertices corners)) (now (walker .entry) .corner .0) .step)
+        × (now (walker .exit) .corner ≡ toPrevious (before cv co cm vc vm vp (countsOf vertices corners)) (now (walker .entry) .corner .0) .corner) ⌝ }
 {
     let m = previous_from(walker.corner, cv, co, cm, vc, vm, vp, vertices, corners);
     walker.corner = m.corner;
@@ -293,10 +283,8 @@ pub fn move_to_opposite<'s, 'a>(
     vertices: u32,
     corners: u32,
 ) -> Step
-    ensures { λ r. ⌜ (r ≡ toOpposite (table (now (cv .entry)) (now (co .entry)) (now (cm .entry)) (now (vc .entry)) (now (vm .entry))
-        (now (vp .entry)) vertices corners) (now (walker .entry) .corner .0) .step)
-        × (now (walker .exit) .corner ≡ toOpposite (table (now (cv .entry)) (now (co .entry)) (now (cm .entry)) (now (vc .entry)) (now (vm .entry))
-        (now (vp .entry)) vertices corners) (now (walker .entry) .corner .0) .corner) ⌝ }
+    ensures { λ r. ⌜ (r ≡ toOpposite (before cv co cm vc vm vp (countsOf vertices corners)) (now (walker .entry) .corner .0) .step)
+        × (now (walker .exit) .corner ≡ toOpposite (before cv co cm vc vm vp (countsOf vertices corners)) (now (walker .entry) .corner .0) .corner) ⌝ }
 {
     let m = opposite_from(walker.corner, cv, co, cm, vc, vm, vp, vertices, corners);
     walker.corner = m.corner;
@@ -314,10 +302,8 @@ pub fn swing_left_or_stay<'s, 'a>(
     vertices: u32,
     corners: u32,
 ) -> Step
-    ensures { λ r. ⌜ (r ≡ swungLeft (table (now (cv .entry)) (now (co .entry)) (now (cm .entry)) (now (vc .entry)) (now (vm .entry))
-        (now (vp .entry)) vertices corners) (now (walker .entry) .corner .0) .step)
-        × (now (walker .exit) .corner ≡ swungLeft (table (now (cv .entry)) (now (co .entry)) (now (cm .entry)) (now (vc .entry)) (now (vm .entry))
-        (now (vp .entry)) vertices corners) (now (walker .entry) .corner .0) .corner) ⌝ }
+    ensures { λ r. ⌜ (r ≡ swungLeft (before cv co cm vc vm vp (countsOf vertices corners)) (now (walker .entry) .corner .0) .step)
+        × (now (walker .exit) .corner ≡ swungLeft (before cv co cm vc vm vp (countsOf vertices corners)) (now (walker .entry) .corner .0) .corner) ⌝ }
 {
     let m = swing_left_from(walker.corner, cv, co, cm, vc, vm, vp, vertices, corners);
     walker.corner = m.corner;
@@ -335,10 +321,8 @@ pub fn swing_right_or_stay<'s, 'a>(
     vertices: u32,
     corners: u32,
 ) -> Step
-    ensures { λ r. ⌜ (r ≡ swungRight (table (now (cv .entry)) (now (co .entry)) (now (cm .entry)) (now (vc .entry)) (now (vm .entry))
-        (now (vp .entry)) vertices corners) (now (walker .entry) .corner .0) .step)
-        × (now (walker .exit) .corner ≡ swungRight (table (now (cv .entry)) (now (co .entry)) (now (cm .entry)) (now (vc .entry)) (now (vm .entry))
-        (now (vp .entry)) vertices corners) (now (walker .entry) .corner .0) .corner) ⌝ }
+    ensures { λ r. ⌜ (r ≡ swungRight (before cv co cm vc vm vp (countsOf vertices corners)) (now (walker .entry) .corner .0) .step)
+        × (now (walker .exit) .corner ≡ swungRight (before cv co cm vc vm vp (countsOf vertices corners)) (now (walker .entry) .corner .0) .corner) ⌝ }
 {
     let m = swing_right_from(walker.corner, cv, co, cm, vc, vm, vp, vertices, corners);
     walker.corner = m.corner;
