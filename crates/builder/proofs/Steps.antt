@@ -18,18 +18,18 @@ use Rattle.table.specs.declared.Counts.{Counts}
 use Rattle.fan.proofs.Fan.{Linked}
 use Rattle.ring.specs.Ring.{ring}
 use Rattle.ring.proofs.Exact.{ring-exact}
-use Rattle.builder_build.specs.Build.{SoFar, Course, go, faces, Shared, vertices, BuildOutcome, built, refused, start, laid, allFinite, isolated, done, spread, finish, build}
+use Rattle.builder_build.specs.Build.{SoFar, Course, go, faces, Shared, vertices, BuildOutcome, built, refusedBuild, start, laid, allFinite, isolated, done, spread, finish, build}
 use Rattle.builder_build.specs.Ready.{Ready}
 use Rattle.builder_build.proofs.Grow.{paired-linked}
 use Rattle.builder_build.proofs.Folded.{Fine, faces-ready, start-ready}
 use Rattle.builder_build.proofs.Settle.{Whole}
 use Rattle.builder_faces.specs.Steps.{soFar, stepped}
-use Rattle.builder_fans.specs.Chains.{shared, Ended, Threads, threads, threaded, marked, settled}
+use Rattle.builder_fans.specs.Chains.{shared, Ended, Threads, threads, threaded, marked, spreadOver}
 use Rattle.builder_fans.proofs.Marks.{fast}
 use Rattle.builder.specs.Calls.{Fresh, Begun}
 
 -- a cleared table is the refusal's
-pub made-blank : (rc rv a c v : ℕ) (t : Table) → t ≡ blank c v → c ≡ rc → v ≡ rv → built a 0 t ≡ refused rc rv a
+pub made-blank : (rc rv a c v : ℕ) (t : Table) → t ≡ blank c v → c ≡ rc → v ≡ rv → built a 0 t ≡ refusedBuild rc rv a
 made-blank rc rv a c v t e p q = rw (e, p, q)
 
 pub begun-long : (cv co cm vc vm : List ℕ) (vp : List Float) (n count room skipped : ℕ) → Begun cv co cm vc vm vp n count room skipped
@@ -54,7 +54,7 @@ begun-shaped cv co cm vc vm vp n count room skipped G cv′ cm′ vc′ vm′ vp
 module _ (rc rv nv n sk r : ℕ) (cv co vc cm cm₁ cm₂ vm vm₂ cv′ vc′ : List ℕ) (vp vp′ : List Float) (points : List Float)
     (G : Begun cv co cm vc vm vp n nv rv sk) (long : length cm ≡ rc) (lay : vp ≡ laid rv points)
     (m : cm₁ ≡ marked (ring co n) vc nv 0 cm) (f : threads cm₂ vm₂ ≡ threaded cv n (threads cm₁ vm))
-    (E : Ended rv (settled (ring co n) cm₂ vm₂ n nv 0 (shared cv vc vp nv)) cv′ vc′ vp′ r) where
+    (E : Ended rv (spreadOver (ring co n) cm₂ vm₂ n nv 0 (shared cv vc vp nv)) cv′ vc′ vp′ r) where
   R : Ready nv rc rv (soFar cv co vc n sk)
   R = subst (λ (x : ℕ). Ready nv x rv (soFar cv co vc n sk)) long (G .ready)
 
@@ -71,13 +71,13 @@ module _ (rc rv nv n sk r : ℕ) (cv co vc cm cm₁ cm₂ vm vm₂ cv′ vc′ :
   chains = f ∙ ap (λ (x : List ℕ). threaded cv n (threads x vm)) (m ∙ ap (marked (ring co n) vc nv 0) blank-marks)
       ∙ ap (λ (x : List ℕ). threaded cv n (threads (marked (ring co n) vc nv 0 (replicate rc 0)) x)) (G .flags)
 
-  same : settled (ring co n) cm₂ vm₂ n nv 0 (shared cv vc vp nv) ≡ spread rv nv points (soFar cv co vc n sk)
+  same : spreadOver (ring co n) cm₂ vm₂ n nv 0 (shared cv vc vp nv) ≡ spread rv nv points (soFar cv co vc n sk)
   same =
-      ap (λ (t : Threads). settled (ring co n) (t .link) (t .head) n nv 0 (shared cv vc vp nv)) chains
+      ap (λ (t : Threads). spreadOver (ring co n) (t .link) (t .head) n nv 0 (shared cv vc vp nv)) chains
       ∙ fast n rc rv nv (λ d. getD co d absent) (ring co n) (ring-exact co n L (λ d h. h)) (shared cv vc vp nv) W (R .fits) refl (R .vertices)
       ∙ ap (λ (p : List Float). vertices (ring co n) n nv 0 (shared cv vc p nv)) lay
 
-  pub finish-full : rv < r → refused rc rv 5 ≡ finish rc rv nv points (go (soFar cv co vc n sk))
+  pub finish-full : rv < r → refusedBuild rc rv 5 ≡ finish rc rv nv points (go (soFar cv co vc n sk))
   unfolding finish
   finish-full h =
       let z : rv < spread rv nv points (soFar cv co vc n sk) .nv = subst (λ (s : Shared). rv < s .nv) same (E .full h) in
@@ -89,10 +89,10 @@ module _ (rc rv nv n sk r : ℕ) (cv co vc cm cm₁ cm₂ vm vm₂ cv′ vc′ :
   finish-fits h cm₃ vm₃ p q = by (spread rv nv points (soFar cv co vc n sk)) (E .fits h ∙ same)
     where
       by : (s : Shared) → shared cv′ vc′ vp′ r ≡ s
-          → built 0 sk (table cv′ co cm₃ vc′ vm₃ vp′ r n) ≡ cond (ltb rv (s .nv)) (refused rc rv 5) (done rc rv (soFar cv co vc n sk) s)
+          → built 0 sk (table cv′ co cm₃ vc′ vm₃ vp′ r n) ≡ cond (ltb rv (s .nv)) (refusedBuild rc rv 5) (done rc rv (soFar cv co vc n sk) s)
       by s e =
           subst
-          (λ (t : Shared). built 0 sk (table cv′ co cm₃ vc′ vm₃ vp′ r n) ≡ cond (ltb rv (t .nv)) (refused rc rv 5) (done rc rv (soFar cv co vc n sk) t))
+          (λ (t : Shared). built 0 sk (table cv′ co cm₃ vc′ vm₃ vp′ r n) ≡ cond (ltb rv (t .nv)) (refusedBuild rc rv 5) (done rc rv (soFar cv co vc n sk) t))
           e (rw (le-ltb rv r h, p, q))
 
 -- ---- points and faces
@@ -161,11 +161,11 @@ module _ (cv co cm vc vm : List ℕ) (vp ps : List Float) (rc rv nv : ℕ) (B : 
       small = B .rooms;
     }
 
-    pub made-refused : (a ≡ 0 → ⊥) → refused rc rv a ≡ finish rc rv nv ps (faces nv rc (start rc rv) fs)
+    pub made-refused : (a ≡ 0 → ⊥) → refusedBuild rc rv a ≡ finish rc rv nv ps (faces nv rc (start rc rv) fs)
     unfolding finish
     made-refused z = by a z e′
       where
-        by : (x : ℕ) → (x ≡ 0 → ⊥) → stepped x (soFar cv′ co′ vc′ n sk) ≡ faces nv rc (start rc rv) fs → refused rc rv x ≡ finish rc rv nv ps (faces nv rc (start rc rv) fs)
+        by : (x : ℕ) → (x ≡ 0 → ⊥) → stepped x (soFar cv′ co′ vc′ n sk) ≡ faces nv rc (start rc rv) fs → refusedBuild rc rv x ≡ finish rc rv nv ps (faces nv rc (start rc rv) fs)
         by zero n q = absurd (n refl)
         by (suc x) n q = ap (finish rc rv nv ps) q
 
@@ -194,7 +194,7 @@ module _ (cv co cm vc vm : List ℕ) (vp ps : List Float) (fs : List ℕ) (nv nc
 
     module _ (z : length ps % 3 ≡ 0) (cv′ co′ cm′ vc′ vm′ : List ℕ) (vp′ : List Float)
         (n : Counts) (B : table cv′ co′ cm′ vc′ vm′ vp′ (n .vertices) (n .corners) ≡ blank (length cm) (length vm)) where
-      none : (a : ℕ) → built a 0 (table cv′ co′ cm′ vc′ vm′ vp′ (n .vertices) (n .corners)) ≡ refused (length cm) (length vm) a
+      none : (a : ℕ) → built a 0 (table cv′ co′ cm′ vc′ vm′ vp′ (n .vertices) (n .corners)) ≡ refusedBuild (length cm) (length vm) a
       none a = made-blank (length cm) (length vm) a _ _ _ B refl refl
 
       -- 5, then 4
@@ -204,10 +204,10 @@ module _ (cv co cm vc vm : List ℕ) (vp ps : List Float) (fs : List ℕ) (nv nc
         build-refused k = none a ∙ by (ltb (length vm) (length ps / 3)) t met k ∙ rw (← is, y, eq-eqb (length ps % 3) 0 z, ← fin)
           where
             by : (over finite : Bool) → a ≡ cond over 5 (cond (not finite) 4 0) → (a ≡ 0 → ⊥)
-                → refused (length cm) (length vm) a
-                ≡ cond over (refused (length cm) (length vm) 5)
+                → refusedBuild (length cm) (length vm) a
+                ≡ cond over (refusedBuild (length cm) (length vm) 5)
                 (cond finite (finish (length cm) (length vm) (length ps / 3) ps (faces (length ps / 3) (length cm) (start (length cm) (length vm)) fs))
-                (refused (length cm) (length vm) 4))
+                (refusedBuild (length cm) (length vm) 4))
             by true f e k = rw e
             by false true e k = absurd (k e)
             by false false e k = rw e

@@ -38,7 +38,7 @@ fn finish(
 {
     builder_fans::mark_fans(co, vc, cm, n, count);
     builder_fans::thread_left(cv, cm, vm, n);
-    let u = builder_fans::settle(co, cm, vm, cv, vc, vp, n, room, count);
+    let u = builder_fans::spread(co, cm, vm, cv, vc, vp, n, room, count);
     if u > room {
         let none = table::clear(cv, co, cm, vc, vm, vp);
         return Built {

@@ -22,7 +22,7 @@ use Rattle.fan.proofs.Fan.{Left, Conn, Linked, conn-fan}
 use Rattle.fan.proofs.Spread.{Settled}
 use Rattle.ring.specs.Ring.{ring}
 use Rattle.ring.proofs.Exact.{ring-exact}
-use Rattle.builder_build.specs.Build.{SoFar, Shared, give, left, corners, vertices, laid, allFinite, isolated, done, spread}
+use Rattle.builder_build.specs.Build.{SoFar, Shared, give, outside, corners, vertices, laid, allFinite, isolated, done, spread}
 use Rattle.builder_build.specs.Ready.{Ready}
 use Rattle.builder_build.proofs.Grow.{paired-linked}
 use Rattle.builder_build.proofs.Settle.{Whole, Exact, Pass, Past, early, late, pass-all}
@@ -70,7 +70,7 @@ module _ (ring : ℕ → List ℕ) where
   corners-finite : (v k c : ℕ) (s : Shared) → AllFinite (s .vp) → AllFinite (corners ring v k c s .vp)
   unfolding corners give
   corners-finite v zero c s a = a
-  corners-finite v (suc k) c s a = corners-finite v k (suc c) (cond (left ring v c s) (give ring v c s) s) (by (left ring v c s))
+  corners-finite v (suc k) c s a = corners-finite v k (suc c) (cond (outside ring v c s) (give ring v c s) s) (by (outside ring v c s))
     where
       by : (b : Bool) → AllFinite (cond b (give ring v c s) s .vp)
       by true = copied-finite (s .vp) v (s .nv) a
@@ -89,7 +89,7 @@ module _ (ring : ℕ → List ℕ) where
   unfolding corners give
   corners-long v zero c s = refl
   corners-long v (suc k) c s =
-      corners-long v k (suc c) (cond (left ring v c s) (give ring v c s) s) ∙ by (left ring v c s)
+      corners-long v k (suc c) (cond (outside ring v c s) (give ring v c s) s) ∙ by (outside ring v c s)
     where
       by : (b : Bool) → length (cond b (give ring v c s) s .vp) ≡ length (s .vp)
       by true = simp length-set

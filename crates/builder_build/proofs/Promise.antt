@@ -11,11 +11,11 @@ use lib.ListN.{length}
 use Rattle.table.specs.Table.{Table, cornerRoom, vertexRoom, shaped, Shaped, maxVertices}
 use Rattle.flag.proofs.Words.{and-true}
 use Rattle.table.proofs.Shape.{shaped-true}
-use Rattle.builder_build.specs.Build.{Course, refuse, go, faces, refused, start, allFinite, done, spread, finish, build, Finished}
+use Rattle.builder_build.specs.Build.{Course, refuse, go, faces, refusedBuild, start, allFinite, done, spread, finish, build, Finished}
 use Rattle.builder_build.proofs.Folded.{Fine, faces-ready, start-ready}
 use Rattle.builder_build.proofs.Finished.{done-formed, done-shaped}
 
-never : (n : ℕ) → (n ≡ 0 → ⊥) → (rc rv : ℕ) → Finished (refused rc rv n)
+never : (n : ℕ) → (n ≡ 0 → ⊥) → (rc rv : ℕ) → Finished (refusedBuild rc rv n)
 never n h rc rv e = absurd (h e)
 
 finish-good : (rc rv nv : ℕ) (points : List Float) → allFinite points ≡ true → rv ≤ maxVertices → length points ≤ 3 * rv
@@ -25,7 +25,7 @@ finish-good rc rv nv points F m l (refuse a) h = never a h rc rv
 finish-good rc rv nv points F m l (go k) R = by (ltb rv (spread rv nv points k .nv)) refl
   where
     by : (b : Bool) → ltb rv (spread rv nv points k .nv) ≡ b
-        → Finished (cond b (refused rc rv 5) (done rc rv k (spread rv nv points k)))
+        → Finished (cond b (refusedBuild rc rv 5) (done rc rv k (spread rv nv points k)))
     by true e = never 5 (omega arith) rc rv
     by false e =
         let fits = ltb-false rv (spread rv nv points k .nv) e in
@@ -43,7 +43,7 @@ module _ (t : Table) (points : List Float) (fs : List ℕ) where
 
   by : (a b c : Bool) → shaped t && eqb (length points % 3) 0 ≡ a → ltb rv nv ≡ b → allFinite points ≡ c
       → Finished
-      (cond a (cond b (refused rc rv 5) (cond c (finish rc rv nv points (faces nv rc (start rc rv) fs)) (refused rc rv 4)))
+      (cond a (cond b (refusedBuild rc rv 5) (cond c (finish rc rv nv points (faces nv rc (start rc rv) fs)) (refusedBuild rc rv 4)))
       (record { answer = 1; skipped = 0; result = t }))
   by false b c p q r = λ e. absurd (omega arith)
   by true true c p q r = never 5 (omega arith) rc rv

@@ -10,7 +10,7 @@ use lib.Seq.{getD-set-same, getD-set-other}
 use Rattle.corner.specs.Corner.{next, previous, absent}
 use Rattle.corner.proofs.Turns.{next-first, next-second, next-last, previous-first, previous-second, previous-last}
 use Rattle.fan.proofs.Redirect.{at, at-same, at-other, Seen, set-seen}
-use Rattle.table.specs.Slots.{paired}
+use Rattle.table.specs.Slots.{withPair}
 use Rattle.builder_build.specs.Build.{SoFar, found, skip, grow}
 use Rattle.builder_build.specs.Ready.{Same, Paired, Ready}
 use Rattle.builder_build.proofs.Find.{Edge, Finding, none, some, finding}
@@ -18,7 +18,7 @@ use Rattle.builder_build.proofs.Grow.{New, grown-paired}
 use Rattle.builder_build.proofs.Meet.{Link, bare, linked, Place, apart, met, meet-grown}
 
 -- two writes that pair a with b
-paired-seen : {o : List ℕ} {f : ℕ → ℕ} {x d : ℕ} (a b : ℕ) → Seen o f x d → Seen (paired o a b) (at b a (at a b f)) x d
+paired-seen : {o : List ℕ} {f : ℕ → ℕ} {x d : ℕ} (a b : ℕ) → Seen o f x d → Seen (withPair o a b) (at b a (at a b f)) x d
 paired-seen a b s = set-seen b a (set-seen a b s)
 
 abbrev pub opp : SoFar → ℕ → ℕ

@@ -15,7 +15,7 @@ use Rattle.fan.proofs.Fan.{Left, Conn, stay, conn-sym, conn-vertex, conn-live, 
 use Rattle.fan.proofs.Relabel.{length-relabel, relabel-in, relabel-out}
 use Rattle.fan.proofs.Spread.{Settled, spread-linked, spread-new, spread-old}
 use Rattle.fan.proofs.Visits.{Covers}
-use Rattle.builder_build.specs.Build.{Shared, mem, give, left, corners, vertices}
+use Rattle.builder_build.specs.Build.{Shared, mem, give, outside, corners, vertices}
 
 -- the Bool test of membership
 pub mem-true : (d : ℕ) (l : List ℕ) → mem d l ≡ true → List·Memᴰ d l
@@ -213,8 +213,8 @@ module _ (nc room vroom : ℕ) (opp : ℕ → ℕ) (ring : ℕ → List ℕ) (in
         by (inl z) = absurd (p z)
         by (inr q) = q .0
 
-    left-false : (c : ℕ) (s : Shared) → Scan c s → left ring v c s ≡ false → vtx s c ≡ v → Fan (corner s v) c
-    unfolding left
+    left-false : (c : ℕ) (s : Shared) → Scan c s → outside ring v c s ≡ false → vtx s c ≡ v → Fan (corner s v) c
+    unfolding outside
     left-false c s K e of = by (mem c (ring (corner s v))) refl
       where
         by : (b : Bool) → mem c (ring (corner s v)) ≡ b → Fan (corner s v) c
@@ -225,8 +225,8 @@ module _ (nc room vroom : ℕ) (opp : ℕ → ℕ) (ring : ℕ → List ℕ) (in
       of : vtx s c ≡ v
       out : mem c (ring (corner s v)) ≡ false
 
-    left-true : (c : ℕ) (s : Shared) → left ring v c s ≡ true → LeftOf c s
-    unfolding left
+    left-true : (c : ℕ) (s : Shared) → outside ring v c s ≡ true → LeftOf c s
+    unfolding outside
     left-true c s e = by (eqb (vtx s c) v) (mem c (ring (corner s v))) refl refl e
       where
         by : (a b : Bool) → eqb (vtx s c) v ≡ a → mem c (ring (corner s v)) ≡ b → a && not b ≡ true → LeftOf c s
@@ -238,10 +238,10 @@ module _ (nc room vroom : ℕ) (opp : ℕ → ℕ) (ring : ℕ → List ℕ) (in
     unfolding give
     give-nv c s = refl
 
-    scan-step : (c : ℕ) (s : Shared) → c < nc → Fits (Scan c) s → Fits (Scan (suc c)) (cond (left ring v c s) (give ring v c s) s)
-    scan-step c s hc K = by (left ring v c s) refl
+    scan-step : (c : ℕ) (s : Shared) → c < nc → Fits (Scan c) s → Fits (Scan (suc c)) (cond (outside ring v c s) (give ring v c s) s)
+    scan-step c s hc K = by (outside ring v c s) refl
       where
-        by : (b : Bool) → left ring v c s ≡ b → Fits (Scan (suc c)) (cond b (give ring v c s) s)
+        by : (b : Bool) → outside ring v c s ≡ b → Fits (Scan (suc c)) (cond b (give ring v c s) s)
         by true e r =
             let l : LeftOf c s = left-true c s e in
             let m : s .nv + 1 ≤ vroom = rw (give-nv c s) at r in
@@ -252,7 +252,7 @@ module _ (nc room vroom : ℕ) (opp : ℕ → ℕ) (ring : ℕ → List ℕ) (in
     scan-all : (k c : ℕ) (s : Shared) → c + k ≡ nc → Fits (Scan c) s → Fits (Scan nc) (corners ring v k c s)
     unfolding corners
     scan-all zero c s e K = let z : c ≡ nc = omega arith in subst (λ (x : ℕ). Fits (Scan x) s) z K
-    scan-all (suc k) c s e K = scan-all k (suc c) (cond (left ring v c s) (give ring v c s) s) (omega arith) (scan-step c s (omega arith) K)
+    scan-all (suc k) c s e K = scan-all k (suc c) (cond (outside ring v c s) (give ring v c s) s) (omega arith) (scan-step c s (omega arith) K)
 
   -- ---- all vertices
 
@@ -283,7 +283,7 @@ module _ (nc room vroom : ℕ) (opp : ℕ → ℕ) (ring : ℕ → List ℕ) (in
   unfolding corners
   corners-grow v zero c s = omega arith
   corners-grow v (suc k) c s =
-      omega (arith, step-grows v c s (left ring v c s), corners-grow v k (suc c) (cond (left ring v c s) (give ring v c s) s))
+      omega (arith, step-grows v c s (outside ring v c s), corners-grow v k (suc c) (cond (outside ring v c s) (give ring v c s) s))
 
   pass-one : (n₀ v : ℕ) (s : Shared) → v < n₀ → (s .nv ≤ vroom → Pass n₀ v s)
       → (t : Shared) → t ≡ cond (eqb (corner s v) absent) s (corners ring v nc 0 s) → t .nv ≤ vroom → Pass n₀ (suc v) t

@@ -9,7 +9,7 @@ use lib.Ieee.{Float}
 use lib.Ieee.Scale.{finite}
 use lib.ListN.{length, set, replicate}
 use Rattle.corner.specs.Corner.{absent, next, previous}
-use Rattle.table.specs.Slots.{vertexAt, cornerAt, nought, pointAt, withPoint, paired, relabel, three}
+use Rattle.table.specs.Slots.{vertexAt, cornerAt, nought, pointAt, withPoint, withPair, relabel, three}
 use Rattle.table.specs.Table.{Table, table, blank, cornerRoom, vertexRoom, shaped, Shaped}
 use Rattle.table.specs.Rules.{WellFormed}
 use Rattle.ring.specs.Ring.{ring}
@@ -25,8 +25,8 @@ abbrev pub built : ℕ → ℕ → Table → BuildOutcome
 built a skipped t = record { answer = a; skipped = skipped; result = t }
 
 -- "A refusal other than 1 leaves" the blank table. "A refused build reports 0 skipped."
-abbrev pub refused : (rc rv : ℕ) → ℕ → BuildOutcome
-refused rc rv a = built a 0 (blank rc rv)
+abbrev pub refusedBuild : (rc rv : ℕ) → ℕ → BuildOutcome
+refusedBuild rc rv a = built a 0 (blank rc rv)
 
 -- ---- points
 
@@ -98,7 +98,7 @@ grow s a b c =
     let n = s .nc in
     record {
       cv = three (s .cv) n a b c;
-      co = paired (paired (paired (s .co) n (found s c b)) (n + 1) (found s a c)) (n + 2) (found s b a);
+      co = withPair (withPair (withPair (s .co) n (found s c b)) (n + 1) (found s a c)) (n + 2) (found s b a);
       vc = set (set (set (s .vc) a n) b (n + 1)) c (n + 2);
       nc = n + 3;
       skipped = s .skipped;
@@ -156,13 +156,13 @@ module _ (fan : ℕ → List ℕ) where
       }
 
   -- c is a corner of v outside the fan of v's corner
-  unfoldable pub left : ℕ → ℕ → Shared → Bool
-  left v c s = eqb (vertexAt (s .cv) c) v && not (mem c (fan (cornerAt (s .vc) v)))
+  unfoldable pub outside : ℕ → ℕ → Shared → Bool
+  outside v c s = eqb (vertexAt (s .cv) c) v && not (mem c (fan (cornerAt (s .vc) v)))
 
   -- "while corners are left": k corners from c on, ascending. One that is still left when its turn comes is the least of those left.
   unfoldable pub corners : ℕ → ℕ → ℕ → Shared → Shared
   corners v zero c s = s
-  corners v (suc k) c s = corners v k (suc c) (cond (left v c s) (give v c s) s)
+  corners v (suc k) c s = corners v k (suc c) (cond (outside v c s) (give v c s) s)
 
   -- "Each other vertex, ascending, keeps the fan of its corner": k vertices from v on. One without a corner has nothing to keep.
   unfoldable pub vertices : (nc k v : ℕ) → Shared → Shared
@@ -190,9 +190,9 @@ done rc rv k s =
 
 -- "If the duplicates don't fit, the build is refused (5)."
 unfoldable pub finish : (rc rv nv : ℕ) → List Float → Course → BuildOutcome
-finish rc rv nv points (refuse a) = refused rc rv a
+finish rc rv nv points (refuse a) = refusedBuild rc rv a
 finish rc rv nv points (go k) =
-    cond (ltb rv (spread rv nv points k .nv)) (refused rc rv 5) (done rc rv k (spread rv nv points k))
+    cond (ltb rv (spread rv nv points k .nv)) (refusedBuild rc rv 5) (done rc rv k (spread rv nv points k))
 
 -- "Order over the call: 1; more points than room (5); a point not finite (4); faces; duplicates." Answer 1: "lent parts disagree in
 -- length, or room above the maximum", or points in another length than threes; "nothing written", and the counts handed back.
@@ -202,8 +202,8 @@ build t points fs =
     let rv = vertexRoom t in
     let nv = length points / 3 in
     cond (shaped t && eqb (length points % 3) 0)
-    (cond (ltb rv nv) (refused rc rv 5)
-    (cond (allFinite points) (finish rc rv nv points (faces nv rc (start rc rv) fs)) (refused rc rv 4)))
+    (cond (ltb rv nv) (refusedBuild rc rv 5)
+    (cond (allFinite points) (finish rc rv nv points (faces nv rc (start rc rv) fs)) (refusedBuild rc rv 4)))
     (built 1 0 t)
 
 -- The promise, for every input: a finished build leaves a well-formed table.

@@ -9,7 +9,7 @@ use borrow.Author.Tests.{lt-ltb, le-ltb, ltb-false}
 use lib.Dec.{ltb}
 use lib.ListN.{length, getD, set, drop, length-drop}
 use lib.Seq.{drop-cons}
-use Rattle.table.specs.Slots.{paired, three}
+use Rattle.table.specs.Slots.{withPair, three}
 use Rattle.builder_build.specs.Build.{SoFar, skip, grow, Course, refuse, go, known, repeated, taken, face, onCourse, faces}
 use Rattle.builder_edges.specs.declared.Found.{Found}
 use Rattle.builder_edges.specs.Search.{sought, takenBy}
@@ -36,7 +36,7 @@ module _ (nv room n k a b c : ℕ) (cv co vc : List ℕ) (f : Found) (is : f ≡
   face-full e h = rw (kn, re, ← same-taken, ← tb, e, lt-ltb room (n + 3) h)
 
   pub face-grows : t ≡ false → n + 3 ≤ room → (cv′ co′ vc′ : List ℕ) → cv′ ≡ three cv n a b c
-      → co′ ≡ paired (paired (paired co n (f .cb)) (n + 1) (f .ac)) (n + 2) (f .ba) → vc′ ≡ set (set (set vc a n) b (n + 1)) c (n + 2)
+      → co′ ≡ withPair (withPair (withPair co n (f .cb)) (n + 1) (f .ac)) (n + 2) (f .ba) → vc′ ≡ set (set (set vc a n) b (n + 1)) c (n + 2)
       → go (soFar cv′ co′ vc′ (n + 3) k) ≡ face nv room s a b c
   unfolding face grow sought
   face-grows e h cv′ co′ vc′ p q r = rw (kn, re, ← same-taken, ← tb, e, le-ltb room (n + 3) h) (rw (p, q, r, is))

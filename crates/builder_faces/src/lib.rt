@@ -3,7 +3,7 @@ ghost use mathlib.Core.Path.{_≡_};
 ghost use Prim.Native.Nat.{_+_, _<_, _≤_, _%_};
 ghost use lib.ListN.{length, set};
 ghost use lib.Seq.{sets};
-ghost use Rattle.table.specs.Slots.{paired};
+ghost use Rattle.table.specs.Slots.{withPair};
 ghost use Rattle.builder_build.specs.Build.{allFinite, face as faceOf, faces as facesOf};
 ghost use Rattle.builder_faces.specs.Steps.{soFar, stepped};
 use builder_edges::find_edges;
@@ -44,7 +44,7 @@ pub fn add_vertices(vp: &mut [f32], points: &[f32])
 
 // A corner and the one whose edge runs the other way, if there is one: each is the other's opposite.
 fn pair(co: &mut [u32], c: u32, o: u32)
-    ensures { λ r. ⌜ now (co .exit) ≡ paired (now (co .entry)) c o ⌝ }
+    ensures { λ r. ⌜ now (co .exit) ≡ withPair (now (co .entry)) c o ⌝ }
 {
     table::make_corners_opposite(co, Corner(c), Corner(o));
 }
@@ -52,7 +52,7 @@ fn pair(co: &mut [u32], c: u32, o: u32)
 // Each new corner with its mate.
 fn set_opposites(co: &mut [u32], n: u32, cb: u32, ac: u32, ba: u32)
     requires { ⌜ n + 3 < 4294967296 ⌝ }
-    ensures { λ r. ⌜ now (co .exit) ≡ paired (paired (paired (now (co .entry)) n cb) (n + 1) ac) (n + 2) ba ⌝ }
+    ensures { λ r. ⌜ now (co .exit) ≡ withPair (withPair (withPair (now (co .entry)) n cb) (n + 1) ac) (n + 2) ba ⌝ }
 {
     pair(co, n, cb);
     pair(co, n + 1, ac);

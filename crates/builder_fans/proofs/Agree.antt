@@ -13,9 +13,9 @@ use lib.Seq.{getD-set-same, getD-set-other}
 use Rattle.corner.specs.Corner.{absent}
 use Rattle.table.specs.Slots.{relabel}
 use Rattle.fan.proofs.Relabel.{length-relabel, relabel-in, relabel-out}
-use Rattle.builder_build.specs.Build.{Shared, mem, give, left, corners, vertices}
+use Rattle.builder_build.specs.Build.{Shared, mem, give, outside, corners, vertices}
 use Rattle.builder_build.proofs.Settle.{mem-true, mem-false, vtx, corner}
-use Rattle.builder_fans.specs.Chains.{Threads, threads, threadOf, threaded, chain, stepOf, takes, vertexOf, settled}
+use Rattle.builder_fans.specs.Chains.{Threads, threads, threadOf, threaded, chain, stepOf, takes, vertexOf, spreadOver}
 
 -- ---- chains
 
@@ -211,8 +211,8 @@ module _ (ring : ℕ → List ℕ) (n n₀ : ℕ) (s₀ : Shared) (mark : List �
       by (inl q) = sym q ∙ e
       by (inr q) = absurd (omega arith)
 
-  test-same : (s : Shared) → Drift s → (v c : ℕ) → v < n₀ → c < n → eqb (vtx s c) v && eqb (getD mark c 0) 0 ≡ left ring v c s
-  unfolding left
+  test-same : (s : Shared) → Drift s → (v c : ℕ) → v < n₀ → c < n → eqb (vtx s c) v && eqb (getD mark c 0) 0 ≡ outside ring v c s
+  unfolding outside
   test-same s D v c h l = by (eqb (vtx s c) v) refl
     where
       by : (b : Bool) → eqb (vtx s c) v ≡ b → b && eqb (getD mark c 0) 0 ≡ b && not (mem c (ring (corner s v)))
@@ -234,25 +234,25 @@ module _ (ring : ℕ → List ℕ) (n n₀ : ℕ) (s₀ : Shared) (mark : List �
       by (eqb (vtx s₀ c) v) (eqb (getD mark c 0) 0) refl refl (test-same s D v c h (omega arith))
       (λ t E. takes-same v h k (suc c) t (omega arith) E)
     where
-      by : (p q : Bool) → eqb (vtx s₀ c) v ≡ p → eqb (getD mark c 0) 0 ≡ q → (eqb (vtx s c) v && eqb (getD mark c 0) 0) ≡ left ring v c s
+      by : (p q : Bool) → eqb (vtx s₀ c) v ≡ p → eqb (getD mark c 0) 0 ≡ q → (eqb (vtx s c) v && eqb (getD mark c 0) 0) ≡ outside ring v c s
           → ((t : Shared) → Drift t → takes ring v (lefts mark (s₀ .cv) v k (suc c)) t ≡ corners ring v k (suc c) t)
           → takes ring v (cond (p && q) (c ∷ lefts mark (s₀ .cv) v k (suc c)) (lefts mark (s₀ .cv) v k (suc c))) s
-          ≡ corners ring v k (suc c) (cond (left ring v c s) (give ring v c s) s)
+          ≡ corners ring v k (suc c) (cond (outside ring v c s) (give ring v c s) s)
       by true true e f z r =
-          let y : left ring v c s ≡ eqb (vtx s c) v = sym z ∙ rw f (and-true (eqb (vtx s c) v)) in
+          let y : outside ring v c s ≡ eqb (vtx s c) v = sym z ∙ rw f (and-true (eqb (vtx s c) v)) in
           rw y (r (cond (eqb (vtx s c) v) (give ring v c s) s) (step-drift v c s (eqb (vtx s c) v) D))
         where
           and-true : (b : Bool) → b && true ≡ b
           and-true true = refl
           and-true false = refl
       by true false e f z r =
-          let y : left ring v c s ≡ false = sym z ∙ rw f (and-false (eqb (vtx s c) v)) in rw y (r s D)
+          let y : outside ring v c s ≡ false = sym z ∙ rw f (and-false (eqb (vtx s c) v)) in rw y (r s D)
         where
           and-false : (b : Bool) → b && false ≡ false
           and-false true = refl
           and-false false = refl
       by false q e f z r =
-          let y : left ring v c s ≡ false = sym z ∙ ap (λ (b : Bool). b && eqb (getD mark c 0) 0) (gone (eqb (vtx s c) v) refl) in rw y (r s D)
+          let y : outside ring v c s ≡ false = sym z ∙ ap (λ (b : Bool). b && eqb (getD mark c 0) 0) (gone (eqb (vtx s c) v) refl) in rw y (r s D)
         where
           gone : (b : Bool) → eqb (vtx s c) v ≡ b → b ≡ false
           gone false g = refl
@@ -261,19 +261,19 @@ module _ (ring : ℕ → List ℕ) (n n₀ : ℕ) (s₀ : Shared) (mark : List �
   corners-drift : (v k c : ℕ) (s : Shared) → Drift s → Drift (corners ring v k c s)
   unfolding corners
   corners-drift v zero c s D = D
-  corners-drift v (suc k) c s D = corners-drift v k (suc c) (cond (left ring v c s) (give ring v c s) s) (step-drift v c s (left ring v c s) D)
+  corners-drift v (suc k) c s D = corners-drift v k (suc c) (cond (outside ring v c s) (give ring v c s) s) (step-drift v c s (outside ring v c s) D)
 
   -- where nothing is left nothing is done
-  none-left : (v k c : ℕ) (s : Shared) → ((d : ℕ) → d < c + k → left ring v d s ≡ false) → corners ring v k c s ≡ s
+  none-left : (v k c : ℕ) (s : Shared) → ((d : ℕ) → d < c + k → outside ring v d s ≡ false) → corners ring v k c s ≡ s
   unfolding corners
   none-left v zero c s all = refl
   none-left v (suc k) c s all = by (all c (omega arith)) (none-left v k (suc c) s (λ d h. all d (omega arith)))
     where
-      by : left ring v c s ≡ false → corners ring v k (suc c) s ≡ s → corners ring v k (suc c) (cond (left ring v c s) (give ring v c s) s) ≡ s
+      by : outside ring v c s ≡ false → corners ring v k (suc c) s ≡ s → corners ring v k (suc c) (cond (outside ring v c s) (give ring v c s) s) ≡ s
       by e r = ap (λ (b : Bool). corners ring v k (suc c) (cond b (give ring v c s) s)) e ∙ r
 
-  left-not : (v c : ℕ) (s : Shared) → (vtx s c ≡ v → mem c (ring (corner s v)) ≡ true) → left ring v c s ≡ false
-  unfolding left
+  left-not : (v c : ℕ) (s : Shared) → (vtx s c ≡ v → mem c (ring (corner s v)) ≡ true) → outside ring v c s ≡ false
+  unfolding outside
   left-not v c s all = by (eqb (vtx s c) v) refl
     where
       by : (b : Bool) → eqb (vtx s c) v ≡ b → b && not (mem c (ring (corner s v))) ≡ false
@@ -298,12 +298,12 @@ module _ (ring : ℕ → List ℕ) (n n₀ : ℕ) (s₀ : Shared) (mark : List �
         by true q = cornerless v s h D (eqb-true _ _ q)
         by false q = refl
 
-    all-same : (k v : ℕ) (s : Shared) → v + k ≤ n₀ → Drift s → settled ring link head n k v s ≡ vertices ring n k v s
-    unfolding settled vertices
+    all-same : (k v : ℕ) (s : Shared) → v + k ≤ n₀ → Drift s → spreadOver ring link head n k v s ≡ vertices ring n k v s
+    unfolding spreadOver vertices
     all-same zero v s l D = refl
     all-same (suc k) v s l D =
-        ap (λ (x : Shared). settled ring link head n k (suc v) x) (vertex-same v s (omega arith) D)
+        ap (λ (x : Shared). spreadOver ring link head n k (suc v) x) (vertex-same v s (omega arith) D)
         ∙ all-same k (suc v) (cond (eqb (corner s v) absent) s (corners ring v n 0 s)) (omega arith) (plain-drift v s (eqb (corner s v) absent) D)
 
-    pub fast-plain : n₀ ≤ s₀ .nv → settled ring link head n n₀ 0 s₀ ≡ vertices ring n n₀ 0 s₀
+    pub fast-plain : n₀ ≤ s₀ .nv → spreadOver ring link head n n₀ 0 s₀ ≡ vertices ring n n₀ 0 s₀
     fast-plain g = all-same n₀ 0 s₀ (omega arith) (record { label = λ d. inl refl; home = λ v h. refl; grown = g })

@@ -16,7 +16,7 @@ use Rattle.fan.proofs.Relabel.{length-relabel, relabel-in, relabel-out, relabel
 use Rattle.builder_build.specs.Build.{Shared, mem, vertices}
 use Rattle.builder_build.proofs.Settle.{mem-true, mem-false, vtx, corner, Whole, Exact}
 use Rattle.builder_build.proofs.Folded.{getD-replicate}
-use Rattle.builder_fans.specs.Chains.{Threads, threads, threaded, markOf, marked, settled}
+use Rattle.builder_fans.specs.Chains.{Threads, threads, threaded, markOf, marked, spreadOver}
 use Rattle.builder_fans.proofs.Agree.{chain-lefts, fast-plain}
 
 module _ (ring : ℕ → List ℕ) (vc : List ℕ) where
@@ -109,7 +109,7 @@ module _ (n room vroom n₀ : ℕ) (opp : ℕ → ℕ) (ring : ℕ → List ℕ)
   T = threaded (s .cv) n (threads M (replicate vroom 0))
 
   -- the marks, the chains and the walk along them do what the build says
-  pub fast : settled ring (T .link) (T .head) n n₀ 0 s ≡ vertices ring n n₀ 0 s
+  pub fast : spreadOver ring (T .link) (T .head) n n₀ 0 s ≡ vertices ring n n₀ 0 s
   fast =
       fast-plain ring n n₀ s M (W .has) marks (T .link) (T .head)
       (λ v h. chain-lefts (s .cv) M n vroom (rw long inside) (λ c l. omega (arith, W .below c l)) (replicate vroom 0)

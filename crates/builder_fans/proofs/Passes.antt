@@ -12,7 +12,7 @@ use Rattle.corner.specs.Corner.{absent}
 use Rattle.vertex.specs.declared.Point.{Point}
 use Rattle.table.specs.Slots.{relabel, pointAt, withPoint}
 use Rattle.builder_build.specs.Build.{Shared, give, isolated}
-use Rattle.builder_fans.specs.Chains.{shared, Ended, threads, threadOf, threaded, chain, markOf, marked, stepOf, takes, vertexOf, settled, isolateOf}
+use Rattle.builder_fans.specs.Chains.{shared, Ended, threads, threadOf, threaded, chain, markOf, marked, stepOf, takes, vertexOf, spreadOver, isolateOf}
 
 -- ---- the fans that are kept
 
@@ -195,13 +195,13 @@ module _ (ring : ℕ → List ℕ) (v : ℕ) where
 -- ---- all vertices
 
 module _ (ring : ℕ → List ℕ) (link head : List ℕ) (n : ℕ) where
-  pub settled-zero : (v : ℕ) (s : Shared) → settled ring link head n 0 v s ≡ s
-  unfolding settled
-  settled-zero v s = refl
+  pub spreadOver-zero : (v : ℕ) (s : Shared) → spreadOver ring link head n 0 v s ≡ s
+  unfolding spreadOver
+  spreadOver-zero v s = refl
 
-  pub settled-suc : (k v : ℕ) (s : Shared) → settled ring link head n (suc k) v s ≡ settled ring link head n k (suc v) (vertexOf ring link head n v s)
-  unfolding settled
-  settled-suc k v s = refl
+  pub spreadOver-suc : (k v : ℕ) (s : Shared) → spreadOver ring link head n (suc k) v s ≡ spreadOver ring link head n k (suc v) (vertexOf ring link head n v s)
+  unfolding spreadOver
+  spreadOver-suc k v s = refl
 
   pub vertex-grows : (v : ℕ) (s : Shared) → s .nv ≤ vertexOf ring link head n v s .nv
   unfolding vertexOf

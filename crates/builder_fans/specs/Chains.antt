@@ -65,9 +65,9 @@ module _ (fan : ℕ → List ℕ) where
   vertexOf link head n v s = takes v (chain link n (getD head v 0)) s
 
   -- k vertices from v on
-  unfoldable pub settled : List ℕ → List ℕ → (n k v : ℕ) → Shared → Shared
-  settled link head n zero v s = s
-  settled link head n (suc k) v s = settled link head n k (suc v) (vertexOf link head n v s)
+  unfoldable pub spreadOver : List ℕ → List ℕ → (n k v : ℕ) → Shared → Shared
+  spreadOver link head n zero v s = s
+  spreadOver link head n (suc k) v s = spreadOver link head n k (suc v) (vertexOf link head n v s)
 
 unfoldable pub isolateOf : List ℕ → ℕ → List ℕ → List ℕ
 isolateOf vc i m = cond (eqb (cornerAt vc i) absent) (set m i 1) m

@@ -8,7 +8,7 @@ ghost use mathlib.Core.Path.{_≡_};
 ghost use Prim.Native.Nat.{_+_, _<_, _≤_};
 ghost use Rattle.ring.specs.Ring.{ring};
 ghost use Rattle.builder_build.specs.Build.{give as giveOf, isolated};
-ghost use Rattle.builder_fans.specs.Chains.{shared, marked, markOf, threads, threadOf, threaded, stepOf, chain, takes, vertexOf, settled, Ended, isolateOf};
+ghost use Rattle.builder_fans.specs.Chains.{shared, marked, markOf, threads, threadOf, threaded, stepOf, chain, takes, vertexOf, spreadOver, Ended, isolateOf};
 use corner::Corner;
 use vertex::Vertex;
 
@@ -159,7 +159,7 @@ fn one_vertex(
 }
 
 // All vertices, ascending.
-pub fn settle(
+pub fn spread(
     co: &[u32],
     cm: &[u32],
     vm: &[u32],
@@ -172,7 +172,7 @@ pub fn settle(
 ) -> u32
     requires { ⌜ count ≤ room ⌝ }
     requires { ⌜ room < 4294967295 ⌝ }
-    ensures { λ r. ⌜ Ended room (settled (ring (now (co .entry)) n) (now (cm .entry)) (now (vm .entry)) n count 0 (shared (now (cv .entry))
+    ensures { λ r. ⌜ Ended room (spreadOver (ring (now (co .entry)) n) (now (cm .entry)) (now (vm .entry)) n count 0 (shared (now (cv .entry))
         (now (vc .entry)) (now (vp .entry)) count)) (now (cv .exit)) (now (vc .exit)) (now (vp .exit)) r ⌝ }
 {
     let mut v: u32 = 0;

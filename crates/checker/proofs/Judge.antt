@@ -20,7 +20,7 @@ use Rattle.checker_rules.proofs.Walks.{fan-near}
 use Rattle.checker_rules.proofs.Rules.{At, holds-at, at-holds}
 use Rattle.checker.specs.First.{firstBad}
 use Rattle.checker.specs.Order.{firstOf, clean, passed, disagree, broken, ruled, verdictOf}
-use Rattle.checker.specs.Blame.{AllKeep, Blames, Judged, unshaped, sound, blamed}
+use Rattle.checker.specs.Blame.{AllObey, Blames, Judged, unshaped, sound, blamed}
 use Rattle.checker.specs.declared.Verdict.{Verdict}
 use Rattle.checker.proofs.First.{First, first-bad, all-pass, pass-all}
 use Rattle.checker.proofs.Order.{clean-all, all-clean}
@@ -94,7 +94,7 @@ module _ (t : Table) where
             → ((j : ℕ) → j < i → holds (testAt k) t j ≡ true) → Blames t (ruleOf (testAt k)) (slotOf (testAt k) i)
         blame k s h i l e p =
             let b : Before t (place (testAt k)) = subst (λ (x : ℕ). Before t x) (sym (place-test k s)) h in
-            let a : (j : ℕ) → j < k → AllKeep (testAt j) t = λ j m. early k s h j m in
+            let a : (j : ℕ) → j < k → AllObey (testAt j) t = λ j m. early k s h j m in
             record {
               k = k;
               kind = s;
@@ -106,13 +106,13 @@ module _ (t : Table) where
               lowerRules = λ test m. lower k a test m (decLt (place test) k);
             }
           where
-            early : (k : ℕ) → k < tests → Before t k → (j : ℕ) → j < k → AllKeep (testAt j) t
+            early : (k : ℕ) → k < tests → Before t k → (j : ℕ) → j < k → AllObey (testAt j) t
             early k s h j m =
                 all-keep t S (testAt j) (subst (λ (x : ℕ). Before t x) (sym (place-test j (omega arith))) (λ i n. h i (omega arith))) (h j m)
 
-            lower : (k : ℕ) → ((j : ℕ) → j < k → AllKeep (testAt j) t) → (test : Test) → ruleOf test < ruleOf (testAt k) → Dec (place test < k)
-                → AllKeep test t
-            lower k a test m (yes d) = subst (λ (x : Test). AllKeep x t) (test-place test) (a (place test) d)
+            lower : (k : ℕ) → ((j : ℕ) → j < k → AllObey (testAt j) t) → (test : Test) → ruleOf test < ruleOf (testAt k) → Dec (place test < k)
+                → AllObey test t
+            lower k a test m (yes d) = subst (λ (x : Test). AllObey x t) (test-place test) (a (place test) d)
             lower k a test m (no d) =
                 absurd (omega (arith, rule-order (place test) k (omega arith), ap ruleOf (test-place test)))
 

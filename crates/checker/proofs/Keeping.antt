@@ -18,7 +18,7 @@ use Rattle.checker_kinds.proofs.Places.{place}
 use Rattle.checker_rules.specs.Tests.{holds, AllHold}
 use Rattle.checker_rules.proofs.Walks.{Hit, near-hit, fan-near}
 use Rattle.checker_rules.proofs.Rules.{At, holds-at, at-holds}
-use Rattle.checker.specs.Blame.{Keeps, Slot}
+use Rattle.checker.specs.Blame.{Obeys, Slot}
 
 -- ---- the three corners of a face, from its first one
 
@@ -52,15 +52,15 @@ module _ (f : ℕ) (m : f % 3 ≡ 0) where
 
 module _ (t : Table) where
   -- "a face's three marks agree"
-  at-marks : (f : ℕ) → f % 3 ≡ 0 → At t FaceMark f → At t FaceMark (f + 1) → Keeps FaceMark t f
-  unfolding At Keeps
+  at-marks : (f : ℕ) → f % 3 ≡ 0 → At t FaceMark f → At t FaceMark (f + 1) → Obeys FaceMark t f
+  unfolding At Obeys
   at-marks f m p q =
       let a : next f ≡ f + 1 = turn0 f m in
       let b : next (f + 1) ≡ f + 2 = turn1 f m in
       (cc, cc)
 
-  marks-at : (f : ℕ) → f % 3 ≡ 0 → Keeps FaceMark t f → At t FaceMark f × At t FaceMark (f + 1) × At t FaceMark (f + 2)
-  unfolding At Keeps
+  marks-at : (f : ℕ) → f % 3 ≡ 0 → Obeys FaceMark t f → At t FaceMark f × At t FaceMark (f + 1) × At t FaceMark (f + 2)
+  unfolding At Obeys
   marks-at f m k =
       let a : next f ≡ f + 1 = turn0 f m in
       let b : next (f + 1) ≡ f + 2 = turn1 f m in
@@ -84,8 +84,8 @@ module _ (t : Table) where
     apart-next : (c d : ℕ) → next c ≡ d → vertex t c ≢ vertex t d → vertex t c ≢ vertex t (next c)
     apart-next c d e n = subst (λ (x : ℕ). vertex t c ≢ vertex t x) (sym e) n
 
-    at-differ : At t FaceVertex f → At t FaceVertex (f + 1) → At t FaceVertex (f + 2) → Keeps FaceVertex t f
-    unfolding At Keeps
+    at-differ : At t FaceVertex f → At t FaceVertex (f + 1) → At t FaceVertex (f + 2) → Obeys FaceVertex t f
+    unfolding At Obeys
     at-differ p q r =
         λ l. (
           apart f (f + 1) (turn0 f m) (p l),
@@ -93,8 +93,8 @@ module _ (t : Table) where
           apart (f + 2) f (turn2 f m) (r (live2 (live1 l))),
         )
 
-    differ-at : Keeps FaceVertex t f → At t FaceVertex f × At t FaceVertex (f + 1) × At t FaceVertex (f + 2)
-    unfolding At Keeps
+    differ-at : Obeys FaceVertex t f → At t FaceVertex f × At t FaceVertex (f + 1) × At t FaceVertex (f + 2)
+    unfolding At Obeys
     differ-at k = (
       λ l. apart-next f (f + 1) (turn0 f m) (k l .0),
       λ l. apart-next (f + 1) (f + 2) (turn1 f m) (k (live0 (live2 l)) .1),
@@ -190,8 +190,8 @@ module _ (t : Table) where
   -- ---- the two laws for every kind
 
   pub keeps-below : Shaped t → (test : Test) → Before (place test) → (b : ℕ) → ((j : ℕ) → j < b → holds test t j ≡ true)
-      → (j : ℕ) → j < slotOf test b → Slot test t j → Keeps test t j
-  unfolding place slotOf Slot Keeps At
+      → (j : ℕ) → j < slotOf test b → Slot test t j → Obeys test t j
+  unfolding place slotOf Slot Obeys At
   keeps-below S Counts h b p j s u = holds-at t Counts j (p j s)
   keeps-below S CornerMark h b p j s u = holds-at t CornerMark j (p j s)
   keeps-below S FaceMark h b p j s u =
@@ -206,8 +206,8 @@ module _ (t : Table) where
   keeps-below S CornerFan h b p j s u = fans-keep S h b p j s
   keeps-below S Finite h b p j s u = holds-at t Finite j (p j s)
 
-  pub keeps-holds : Shaped t → (test : Test) → Before (place test) → (i : ℕ) → Keeps test t (slotOf test i) → holds test t i ≡ true
-  unfolding place slotOf Keeps At
+  pub keeps-holds : Shaped t → (test : Test) → Before (place test) → (i : ℕ) → Obeys test t (slotOf test i) → holds test t i ≡ true
+  unfolding place slotOf Obeys At
   keeps-holds S Counts h i k = at-holds t Counts i k
   keeps-holds S CornerMark h i k = at-holds t CornerMark i k
   keeps-holds S FaceMark h i k =
@@ -251,6 +251,6 @@ module _ (t : Table) where
   slot-below Finite h j u = u
 
   -- so where a test passes everywhere, all its slots keep the rule
-  pub all-keep : Shaped t → (test : Test) → Before (place test) → AllHold test t → (j : ℕ) → Slot test t j → Keeps test t j
+  pub all-keep : Shaped t → (test : Test) → Before (place test) → AllHold test t → (j : ℕ) → Slot test t j → Obeys test t j
   all-keep S test h a j u =
       keeps-below S test h (span test (t .vertices) (t .corners)) (λ i l. a i l) j (slot-below test h j u) u

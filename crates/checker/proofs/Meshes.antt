@@ -11,7 +11,7 @@ use Rattle.table.specs.Rules.{WellFormed}
 use Rattle.table.specs.Slots.{nought}
 use Rattle.table.specs.Meshes.{float1, float2, float3, meshA, meshB, meshT}
 use Rattle.checker_kinds.specs.Kinds.{testAt, ruleOf, span, slotOf}
-use Rattle.checker_rules.specs.Near.{swing, near}
+use Rattle.checker_rules.specs.Near.{beside, near}
 use Rattle.checker_rules.specs.Tests.{countsTest, markTest, faceTest, vertexTest, differTest, backTest, matesTest, oppositeTest}
 use Rattle.checker_rules.specs.Tests.{cornerTest, fanTest, pointTest, holds}
 use Rattle.checker.specs.First.{firstFrom, firstBad}
@@ -60,7 +60,7 @@ pub record Verdicts : Type 0 where
   pub r6 : verdictOf brokenR6 ≡ broken 6 3
 
 pub verdicts : Verdicts
-unfolding verdictOf ruled clean firstOf slotOf span ruleOf testAt holds pointTest fanTest cornerTest oppositeTest matesTest backTest differTest vertexTest faceTest markTest countsTest near swing firstBad firstFrom float3 float2 float1 nought live shapedBy previous next ofBits
+unfolding verdictOf ruled clean firstOf slotOf span ruleOf testAt holds pointTest fanTest cornerTest oppositeTest matesTest backTest differTest vertexTest faceTest markTest countsTest near beside firstBad firstFrom float3 float2 float1 nought live shapedBy previous next ofBits
 verdicts = record { a = refl; b = refl; t = refl; r1 = refl; r2 = refl; r3 = refl; r4 = refl; r5 = refl; fan = refl; r6 = refl }
 
 answer : {v w : Verdict} → v ≡ w → v .answer ≡ w .answer

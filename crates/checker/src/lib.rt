@@ -14,7 +14,7 @@ use checker_kinds::rule_of;
 use checker_kinds::slot_of;
 use checker_kinds::span;
 use checker_kinds::test_at;
-use checker_quick::settled;
+use checker_quick::passing;
 use checker_rules::holds;
 use table::Counts;
 
@@ -80,7 +80,7 @@ fn ruled(
 ) -> Verdict
     ensures { λ r. ⌜ r ≡ ruledOf (before cv co cm vc vm vp (countsOf nv nc)) ⌝ }
 {
-    let mut k = settled(cv, co, cm, vm, nv, nc);
+    let mut k = passing(cv, co, cm, vm, nv, nc);
     while k < 10 {
         let test = test_at(k);
         let i = first_of(test, cv, co, cm, vc, vm, vp, nv, nc);

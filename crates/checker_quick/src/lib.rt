@@ -171,8 +171,8 @@ fn marks_fit(vm: &[u32], nv: u32) -> bool
     true
 }
 
-// How many of the tests, in their order, the quick pass has settled: they pass at every slot.
-pub fn settled(cv: &[u32], co: &[u32], cm: &[u32], vm: &[u32], nv: u32, nc: u32) -> u32
+// How many of the tests, in their order, pass at every slot, as far as the quick pass tells.
+pub fn passing(cv: &[u32], co: &[u32], cm: &[u32], vm: &[u32], nv: u32, nc: u32) -> u32
     ensures { λ r. ⌜ ((vc : List ℕ) → (vp : List Float) → (r ≤ tests) × ((k : ℕ) → k < r
         → AllHold (testAt k) (table (now (cv .entry)) (now (co .entry)) (now (cm .entry)) vc (now (vm .entry)) vp nv nc))) ⌝ }
 {

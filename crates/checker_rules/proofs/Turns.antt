@@ -5,7 +5,7 @@ use mathlib.Core.List.{List}
 use mathlib.Core.Bool.{Bool, true, false}
 use native.Mathlib.Nat.{suc-sub-suc, sub-zero}
 use native.Mathlib.Omega.{arith}
-use Rattle.checker_rules.specs.Near.{near, hits, swing}
+use Rattle.checker_rules.specs.Near.{near, hits, beside}
 
 module _ (co : List ℕ) (s c : ℕ) where
   pub near-out : (room a b : ℕ) → room ≤ 0 → false ≡ near co s c room a b
@@ -31,7 +31,7 @@ module _ (co : List ℕ) (s c : ℕ) where
           go zero h = absurd (omega arith)
           go (suc room) h = rw (← is, no, ← is′, e)
 
-      pub near-more : (x y : ℕ) → x ≡ swing true co a → y ≡ swing false co b → q ≡ false → near co s c room a b ≡ near co s c (room - 1) x y
+      pub near-more : (x y : ℕ) → x ≡ beside true co a → y ≡ beside false co b → q ≡ false → near co s c room a b ≡ near co s c (room - 1) x y
       unfolding near
       near-more x y e f g = go room h
         where
@@ -40,23 +40,23 @@ module _ (co : List ℕ) (s c : ℕ) where
           go (suc room) h = rw (← is, no, ← is′, g, ← e, ← f, suc-sub-suc, sub-zero)
 
   -- a turn of the two walks, each swing made only when its corner is looked at
-  module _ (room a b : ℕ) (h : 0 < room) (x : ℕ) (ex : x ≡ swing true co a) (p : Bool) (is : p ≡ hits s c x) where
-    left-is : p ≡ hits s c (swing true co a)
+  module _ (room a b : ℕ) (h : 0 < room) (x : ℕ) (ex : x ≡ beside true co a) (p : Bool) (is : p ≡ hits s c x) where
+    left-is : p ≡ hits s c (beside true co a)
     left-is = is ∙ ap (λ (z : ℕ). hits s c z) ex
 
-    pub turn-left : p ≡ true → true ≡ near co s c room (swing true co a) (swing false co b)
-    turn-left e = near-left room (swing true co a) (swing false co b) h p left-is e
+    pub turn-left : p ≡ true → true ≡ near co s c room (beside true co a) (beside false co b)
+    turn-left e = near-left room (beside true co a) (beside false co b) h p left-is e
 
-    module _ (no : p ≡ false) (y : ℕ) (ey : y ≡ swing false co b) (q : Bool) (is′ : q ≡ hits s c y) where
-      right-is : q ≡ hits s c (swing false co b)
+    module _ (no : p ≡ false) (y : ℕ) (ey : y ≡ beside false co b) (q : Bool) (is′ : q ≡ hits s c y) where
+      right-is : q ≡ hits s c (beside false co b)
       right-is = is′ ∙ ap (λ (z : ℕ). hits s c z) ey
 
-      pub turn-right : q ≡ true → true ≡ near co s c room (swing true co a) (swing false co b)
-      turn-right e = near-right room (swing true co a) (swing false co b) h p left-is no q right-is e
+      pub turn-right : q ≡ true → true ≡ near co s c room (beside true co a) (beside false co b)
+      turn-right e = near-right room (beside true co a) (beside false co b) h p left-is no q right-is e
 
-      pub turn-more : q ≡ false → near co s c room (swing true co a) (swing false co b) ≡ near co s c (room - 1) (swing true co x) (swing false co y)
+      pub turn-more : q ≡ false → near co s c room (beside true co a) (beside false co b) ≡ near co s c (room - 1) (beside true co x) (beside false co y)
       turn-more g =
-          near-more room (swing true co a) (swing false co b) h p left-is no q right-is (swing true co x) (swing false co y)
-          (ap (λ (z : ℕ). swing true co z) ex)
-          (ap (λ (z : ℕ). swing false co z) ey)
+          near-more room (beside true co a) (beside false co b) h p left-is no q right-is (beside true co x) (beside false co y)
+          (ap (λ (z : ℕ). beside true co z) ex)
+          (ap (λ (z : ℕ). beside false co z) ey)
           g

@@ -16,7 +16,7 @@ use Rattle.table.specs.Rules.{Fan, here, left, right}
 use Rattle.fan.proofs.Fan.{swingL, swingR, Left, Conn, conn-sym, Linked, fan-conn}
 use Rattle.fan.proofs.Walk.{it, Stop, border, closes, Walk, walk}
 use Rattle.fan.proofs.Ring.{lefts, rights, On, closed-cover, open-cover, stuckL, stuckR}
-use Rattle.checker_rules.specs.Near.{swing, hits, near}
+use Rattle.checker_rules.specs.Near.{beside, hits, near}
 
 module _ (co : List ℕ) (s c : ℕ) where
   abbrev opp : ℕ → ℕ
@@ -44,8 +44,8 @@ module _ (co : List ℕ) (s c : ℕ) where
     on-fan true x n f = left f n refl
     on-fan false x n f = right f n refl
 
-    swing-cursor : (way : Bool) (x : ℕ) → Cursor x → Cursor (swing way co x)
-    unfolding swing
+    swing-cursor : (way : Bool) (x : ℕ) → Cursor x → Cursor (beside way co x)
+    unfolding beside
     swing-cursor way x k = go k (eqb (opp (turn way x)) absent) refl
       where
         go : Cursor x → (b : Bool) → eqb (opp (turn way x)) absent ≡ b → Cursor (cond b absent (around way x))
@@ -67,11 +67,11 @@ module _ (co : List ℕ) (s c : ℕ) where
     hit-from zero a b k j e = absurd (false≢true e)
     hit-from (suc n) a b k j e =
         go
-        (λ f. hit-from n (swing true co a) (swing false co b) (swing-cursor true a k) (swing-cursor false b j) f)
+        (λ f. hit-from n (beside true co a) (beside false co b) (swing-cursor true a k) (swing-cursor false b j) f)
         (hits s c a) refl (hits s c b) refl e
       where
-        go : (near co s c n (swing true co a) (swing false co b) ≡ true → Hit) → (p : Bool) → hits s c a ≡ p → (q : Bool) → hits s c b ≡ q
-            → cond p true (cond q true (near co s c n (swing true co a) (swing false co b))) ≡ true → Hit
+        go : (near co s c n (beside true co a) (beside false co b) ≡ true → Hit) → (p : Bool) → hits s c a ≡ p → (q : Bool) → hits s c b ≡ q
+            → cond p true (cond q true (near co s c n (beside true co a) (beside false co b))) ≡ true → Hit
         go ih true p q u e = hit-at a k p
         go ih false p true u e = hit-at b j u
         go ih false p false u e = ih e
@@ -86,41 +86,41 @@ module _ (co : List ℕ) (s c : ℕ) where
   front f a (suc i) = ap f (front f a i)
 
   abbrev Meets : ℕ → ℕ → ℕ → Type 0
-  Meets a b i = (hits s c (it (swing true co) a i) ≡ true) ⊎ (hits s c (it (swing false co) b i) ≡ true)
+  Meets a b i = (hits s c (it (beside true co) a i) ≡ true) ⊎ (hits s c (it (beside false co) b i) ≡ true)
 
   meets : (n i a b : ℕ) → i < n → Meets a b i → near co s c n a b ≡ true
   unfolding near
   meets zero i a b l h = absurd (omega arith)
-  meets (suc n) i a b l h = go (λ j m. meets n j (swing true co a) (swing false co b) (omega arith)) i l h (hits s c a) refl (hits s c b) refl
+  meets (suc n) i a b l h = go (λ j m. meets n j (beside true co a) (beside false co b) (omega arith)) i l h (hits s c a) refl (hits s c b) refl
     where
-      go : ((j : ℕ) → suc j < suc n → Meets (swing true co a) (swing false co b) j → near co s c n (swing true co a) (swing false co b) ≡ true)
+      go : ((j : ℕ) → suc j < suc n → Meets (beside true co a) (beside false co b) j → near co s c n (beside true co a) (beside false co b) ≡ true)
           → (i : ℕ) → i < suc n → Meets a b i
           → (p : Bool) → hits s c a ≡ p → (q : Bool) → hits s c b ≡ q
-          → cond (hits s c a) true (cond (hits s c b) true (near co s c n (swing true co a) (swing false co b))) ≡ true
+          → cond (hits s c a) true (cond (hits s c b) true (near co s c n (beside true co a) (beside false co b))) ≡ true
       go ih i m h true p q u = rw p
       go ih i m h false p true u = rw (p, u)
       go ih zero m (inl h) false p false u = absurd (false≢true (sym p ∙ h))
       go ih zero m (inr h) false p false u = absurd (false≢true (sym u ∙ h))
       go ih (suc j) m (inl h) false p false u =
-          rw (p, u) (ih j m (inl (ap (λ (x : ℕ). hits s c x) (front (swing true co) a j) ∙ h)))
+          rw (p, u) (ih j m (inl (ap (λ (x : ℕ). hits s c x) (front (beside true co) a j) ∙ h)))
       go ih (suc j) m (inr h) false p false u =
-          rw (p, u) (ih j m (inr (ap (λ (x : ℕ). hits s c x) (front (swing false co) b j) ∙ h)))
+          rw (p, u) (ih j m (inr (ap (λ (x : ℕ). hits s c x) (front (beside false co) b j) ∙ h)))
 
-  swing-is : (way : Bool) (x : ℕ) → opp (turn way x) ≢ absent → swing way co x ≡ around way x
-  unfolding swing
+  swing-is : (way : Bool) (x : ℕ) → opp (turn way x) ≢ absent → beside way co x ≡ around way x
+  unfolding beside
   swing-is way x m = rw (ne-eqb _ _ m)
 
   same-walk : (way : Bool) (i : ℕ) → ((j : ℕ) → j < i → opp (turn way (it (around way) c j)) ≢ absent)
-      → it (swing way co) c i ≡ it (around way) c i
+      → it (beside way co) c i ≡ it (around way) c i
   same-walk way zero m = refl
   same-walk way (suc i) m =
-      ap (swing way co) (same-walk way i (λ j h. m j (omega arith))) ∙ swing-is way (it (around way) c i) (m i (omega arith))
+      ap (beside way co) (same-walk way i (λ j h. m j (omega arith))) ∙ swing-is way (it (around way) c i) (m i (omega arith))
 
   found : (way : Bool) (n i : ℕ) → i < n → it (around way) c i ≡ s → ((j : ℕ) → j < i → opp (turn way (it (around way) c j)) ≢ absent)
       → near co s c n c c ≡ true
-  found way n i l e m = go way (or-left (eqb (it (swing way co) c i) s) (ltb (it (swing way co) c i) c) (eq-eqb _ _ (same-walk way i m ∙ e)))
+  found way n i l e m = go way (or-left (eqb (it (beside way co) c i) s) (ltb (it (beside way co) c i) c) (eq-eqb _ _ (same-walk way i m ∙ e)))
     where
-      go : (way : Bool) → hits s c (it (swing way co) c i) ≡ true → near co s c n c c ≡ true
+      go : (way : Bool) → hits s c (it (beside way co) c i) ≡ true → near co s c n c c ≡ true
       go true h = meets n i c c l (inl h)
       go false h = meets n i c c l (inr h)
 

@@ -7,11 +7,11 @@ use Rattle.corner.specs.Corner.{absent, turn}
 use Rattle.table.specs.Slots.{oppositeAt}
 
 -- "swing left is next, opposite, next; swing right is previous, opposite, previous", absent past a border
-abbrev pub onto : Bool → ℕ → ℕ
-onto left o = cond (eqb o absent) absent (turn left o)
+abbrev pub across : Bool → ℕ → ℕ
+across left o = cond (eqb o absent) absent (turn left o)
 
-unfoldable pub swing : Bool → List ℕ → ℕ → ℕ
-swing left co c = onto left (oppositeAt co (turn left c))
+unfoldable pub beside : Bool → List ℕ → ℕ → ℕ
+beside left co c = across left (oppositeAt co (turn left c))
 
 -- x is s, or comes before c
 abbrev pub hits : ℕ → ℕ → ℕ → Bool
@@ -21,4 +21,4 @@ hits s c x = eqb x s || ltb x c
 unfoldable pub near : List ℕ → ℕ → ℕ → ℕ → ℕ → ℕ → Bool
 near co s c zero a b = false
 near co s c (suc room) a b =
-    cond (hits s c a) true (cond (hits s c b) true (near co s c room (swing true co a) (swing false co b)))
+    cond (hits s c a) true (cond (hits s c b) true (near co s c room (beside true co a) (beside false co b)))

@@ -2,7 +2,7 @@
 ghost use mathlib.Core.Bool.{true, false};
 ghost use mathlib.Core.Path.{_≡_};
 ghost use Rattle.table.specs.Lent.{countsOf, before};
-ghost use Rattle.checker_rules.specs.Near.{onto as ontoOf, swing as swingOf, hits as hitsOf, near as nearOf};
+ghost use Rattle.checker_rules.specs.Near.{across as acrossOf, beside as besideOf, hits as hitsOf, near as nearOf};
 ghost use Rattle.checker_rules.specs.Tests.{countsTest, markTest, faceTest, vertexTest, differTest, backTest, matesTest, oppositeTest, cornerTest, fanTest, pointTest, holds as holdsOf};
 use checker_kinds::Test;
 use corner::Corner;
@@ -23,8 +23,8 @@ use vertex::Vertex;
 // one vertex.
 
 // The corner that a swing across o ends at: none where there is no opposite.
-fn onto(left: bool, o: Corner) -> Corner
-    ensures { λ r. ⌜ r .0 ≡ ontoOf left (o .0) ⌝ }
+fn across(left: bool, o: Corner) -> Corner
+    ensures { λ r. ⌜ r .0 ≡ acrossOf left (o .0) ⌝ }
 {
     if o.0 == 4294967295 {
         return Corner(4294967295);
@@ -33,10 +33,10 @@ fn onto(left: bool, o: Corner) -> Corner
 }
 
 // One swing, ABSENT past a border. From ABSENT it stays there: that reads past every room.
-fn swing(left: bool, co: &[u32], c: Corner) -> Corner
-    ensures { λ r. ⌜ r .0 ≡ swingOf left (now (co .entry)) (c .0) ⌝ }
+fn beside(left: bool, co: &[u32], c: Corner) -> Corner
+    ensures { λ r. ⌜ r .0 ≡ besideOf left (now (co .entry)) (c .0) ⌝ }
 {
-    onto(left, Corner(at(co, c.turn_index(left), 4294967295)))
+    across(left, Corner(at(co, c.turn_index(left), 4294967295)))
 }
 
 fn hits(s: Corner, c: Corner, x: Corner) -> bool
@@ -49,17 +49,17 @@ fn hits(s: Corner, c: Corner, x: Corner) -> bool
 // walk to the right waits for the one to the left: most corners are through with the first swing.
 fn meets(co: &[u32], s: Corner, c: Corner, room: u32) -> bool
     ensures { λ r. ⌜ r ≡ nearOf (now (co .entry)) (s .0) (c .0) room
-        (swingOf true (now (co .entry)) (c .0)) (swingOf false (now (co .entry)) (c .0)) ⌝ }
+        (besideOf true (now (co .entry)) (c .0)) (besideOf false (now (co .entry)) (c .0)) ⌝ }
 {
     let mut a = c;
     let mut b = c;
     let mut rest = room;
     while rest > 0 {
-        a = swing(true, co, a);
+        a = beside(true, co, a);
         if hits(s, c, a) {
             return true;
         }
-        b = swing(false, co, b);
+        b = beside(false, co, b);
         if hits(s, c, b) {
             return true;
         }

@@ -13,7 +13,7 @@ use lib.Seq.{take-suc, take-suc-set}
 use Rattle.corner.specs.Corner.{next, previous}
 use Rattle.table.specs.Slots.{vertexAt, cornerAt}
 use Rattle.table.specs.Table.{Table, vertex}
-use Rattle.ring.specs.Ring.{Side, stop, more, side}
+use Rattle.ring.specs.Ring.{Sweep, stop, more, sweep}
 use Rattle.edge_collapse.specs.EdgeCollapse.{howMany, meetsBorder, neighbours, timesIn, commonIn, affectsBoundary, unsafe}
 use Rattle.edge_collapse.specs.Loops.{Gathered, Rings, Hinders}
 use Rattle.edge_collapse.proofs.Loops.{home}
@@ -35,11 +35,11 @@ module _ (cv co : List ℕ) (n first : ℕ) where
   abbrev value : ℕ → ℕ
   value d = vertexAt cv (previous d)
 
-  abbrev whole : Side
-  whole = side true co (next first) n (next first)
+  abbrev whole : Sweep
+  whole = sweep true co (next first) n (next first)
 
   -- m are at the front, `here` is what is left of the walk
-  pub record Gathering (here : Side) (near₀ near : List ℕ) (m : ℕ) : Type 0 where
+  pub record Gathering (here : Sweep) (near₀ near : List ℕ) (m : ℕ) : Type 0 where
     pub list : take m near ++ map value (here .visits) ≡ vertexAt cv first ∷ map value (whole .visits)
     pub border : here .border ≡ whole .border
     pub some : 0 < m
@@ -47,23 +47,23 @@ module _ (cv co : List ℕ) (n first : ℕ) where
     pub room : 16 ≤ length near
     pub size : length near ≡ length near₀
 
-  pub gathering-start : (here : Side) (l near : List ℕ) (v : ℕ) → here ≡ whole → v ≡ vertexAt cv first → near ≡ set l 0 v → 16 ≤ length l
+  pub gathering-start : (here : Sweep) (l near : List ℕ) (v : ℕ) → here ≡ whole → v ≡ vertexAt cv first → near ≡ set l 0 v → 16 ≤ length l
       → Gathering here near near 1
   gathering-start here l near v h k e r =
       let t : take 1 (set l 0 v) ≡ v ∷ [] = take-suc-set l 0 v (omega arith) in
       let z : length near ≡ length l = put-size l near 0 v e in
       record {
         list = ap (λ (x : List ℕ). x ++ map value (here .visits)) (ap (take 1) e ∙ t)
-            ∙ ap (λ (s : Side). v ∷ map value (s .visits)) h
+            ∙ ap (λ (s : Sweep). v ∷ map value (s .visits)) h
             ∙ ap (λ (y : ℕ). y ∷ map value (whole .visits)) k;
-        border = ap (λ (s : Side). s .border) h;
+        border = ap (λ (s : Sweep). s .border) h;
         some = omega arith;
         most = omega arith;
         room = omega (arith, z, r);
         size = refl;
       }
 
-  pub gathering-more : (here s : Side) (near₀ near near′ : List ℕ) (m d v : ℕ) → Gathering here near₀ near m → here ≡ more d s → v ≡ value d
+  pub gathering-more : (here s : Sweep) (near₀ near near′ : List ℕ) (m d v : ℕ) → Gathering here near₀ near m → here ≡ more d s → v ≡ value d
       → near′ ≡ set near m v → (m ≡ 16 → ⊥) → Gathering s near₀ near′ (m + 1)
   gathering-more here s near₀ near near′ m d v G h k e ne =
       let q : take (m + 1) near′ ≡ take m near ++ (v ∷ []) =
@@ -73,9 +73,9 @@ module _ (cv co : List ℕ) (n first : ℕ) where
         list = ap (λ (x : List ℕ). x ++ map value (s .visits)) q
             ∙ snoc (take m near) (map value (s .visits)) v
             ∙ ap (λ (y : ℕ). take m near ++ (y ∷ map value (s .visits))) k
-            ∙ ap (λ (x : Side). take m near ++ map value (x .visits)) (sym h)
+            ∙ ap (λ (x : Sweep). take m near ++ map value (x .visits)) (sym h)
             ∙ G .list;
-        border = ap (λ (x : Side). x .border) (sym h) ∙ G .border;
+        border = ap (λ (x : Sweep). x .border) (sym h) ∙ G .border;
         some = omega arith;
         most = omega (arith, G .most, ne);
         room = omega (arith, z, G .room);
@@ -87,25 +87,25 @@ module _ (cv co : List ℕ) (n first : ℕ) where
     unfolding neighbours
     ring-list =
         ap (λ (x : ℕ). vertexAt cv x ∷ map value (whole .visits)) is
-        ∙ ap (λ (c : ℕ). vertexAt cv (previous c₀) ∷ map value (side true co c n c .visits)) (home co c₀ first is)
+        ∙ ap (λ (c : ℕ). vertexAt cv (previous c₀) ∷ map value (sweep true co c n c .visits)) (home co c₀ first is)
 
     ring-border : whole .border ≡ meetsBorder co n c₀
     unfolding meetsBorder
-    ring-border = ap (λ (c : ℕ). side true co c n c .border) (home co c₀ first is)
+    ring-border = ap (λ (c : ℕ). sweep true co c n c .border) (home co c₀ first is)
 
-    ended : (here : Side) (near₀ near : List ℕ) (m : ℕ) (b : Bool) → Gathering here near₀ near m → here ≡ stop b → meetsBorder co n c₀ ≡ b
-    ended here near₀ near m b G h = sym ring-border ∙ sym (G .border) ∙ ap (λ (s : Side). s .border) h
+    ended : (here : Sweep) (near₀ near : List ℕ) (m : ℕ) (b : Bool) → Gathering here near₀ near m → here ≡ stop b → meetsBorder co n c₀ ≡ b
+    ended here near₀ near m b G h = sym ring-border ∙ sym (G .border) ∙ ap (λ (s : Sweep). s .border) h
 
-    pub gathered-border : (here : Side) (near₀ near : List ℕ) (m : ℕ) → Gathering here near₀ near m → here ≡ stop true → Gathered cv co n c₀ 0 near
+    pub gathered-border : (here : Sweep) (near₀ near : List ℕ) (m : ℕ) → Gathering here near₀ near m → here ≡ stop true → Gathered cv co n c₀ 0 near
     gathered-border here near₀ near m G h =
         record { border = λ e. ended here near₀ near m true G h; closed = λ p q. absurd (omega (arith, p)); list = λ p q. absurd (omega (arith, p)) }
 
-    pub gathered-all : (here : Side) (near₀ near : List ℕ) (m : ℕ) → Gathering here near₀ near m → here ≡ stop false → Gathered cv co n c₀ m near
+    pub gathered-all : (here : Sweep) (near₀ near : List ℕ) (m : ℕ) → Gathering here near₀ near m → here ≡ stop false → Gathered cv co n c₀ m near
     gathered-all here near₀ near m G h =
         record {
           border = λ e. absurd (omega (arith, e, G .some));
           closed = λ p q. ended here near₀ near m false G h;
-          list = λ p q. sym (no-more (take m near)) ∙ ap (λ (s : Side). take m near ++ map value (s .visits)) (sym h) ∙ G .list ∙ ring-list;
+          list = λ p q. sym (no-more (take m near)) ∙ ap (λ (s : Sweep). take m near ++ map value (s .visits)) (sym h) ∙ G .list ∙ ring-list;
         }
 
     pub gathered-many : (near : List ℕ) → Gathered cv co n c₀ 17 near

@@ -5,10 +5,10 @@ use mathlib.Core.Path.{_≡_}
 use mathlib.Core.List.{List, map}
 use lib.ListN.{take}
 use Rattle.table.specs.Table.{Table}
-use Rattle.ring.specs.Ring.{Side}
+use Rattle.ring.specs.Ring.{Sweep}
 use Rattle.edge_collapse.specs.EdgeCollapse.{howMany, meetsBorder, neighbours, crowded, affectsBoundary, unsafe}
 
-pub record HowMany (test : ℕ → Bool) (value : ℕ → ℕ) (whole : Side) (room n : ℕ) : Type 0 where
+pub record HowMany (test : ℕ → Bool) (value : ℕ → ℕ) (whole : Sweep) (room n : ℕ) : Type 0 where
   pub is : n ≡ howMany test (map value (whole .visits))
   pub bound : n ≤ room
 

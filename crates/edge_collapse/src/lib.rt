@@ -11,7 +11,7 @@ ghost use lib.ListN.{length, take};
 ghost use Rattle.corner.specs.Corner.{absent, previous};
 ghost use Rattle.table.specs.Slots.{vertexAt};
 ghost use Rattle.table.specs.Table.{table};
-ghost use Rattle.ring.specs.Ring.{side};
+ghost use Rattle.ring.specs.Ring.{sweep};
 ghost use Rattle.edge_collapse.specs.EdgeCollapse.{meetsBorder, neighbours, timesIn, commonIn, affectsBoundary, unsafe};
 ghost use Rattle.edge_collapse.specs.Loops.{HowMany, Gathered, Rings, Hinders};
 use corner::Corner;
@@ -42,7 +42,7 @@ fn meets_border(co: &[u32], n: u32, c0: Corner) -> bool
 
 // How often x occurs among the neighbours that the walk to the left from c0 passes after its first.
 fn times_side(x: u32, cv: &[u32], co: &[u32], c0: Corner, n: u32) -> u32
-    ensures { λ r. ⌜ HowMany (λ y. eqb y x) (λ d. vertexAt (now (cv .entry)) (previous d)) (side true (now (co .entry)) (c0 .0) n (c0 .0)) n r ⌝ }
+    ensures { λ r. ⌜ HowMany (λ y. eqb y x) (λ d. vertexAt (now (cv .entry)) (previous d)) (sweep true (now (co .entry)) (c0 .0) n (c0 .0)) n r ⌝ }
 {
     let first = c0.previous_index();
     let mut via = c0.next_index();
@@ -84,7 +84,7 @@ fn occurs(x: u32, cv: &[u32], co: &[u32], n: u32, c: Corner) -> bool
 fn common_side(kept: Corner, cv: &[u32], co: &[u32], c0: Corner, n: u32) -> u32
     requires { ⌜ n < absent ⌝ }
     ensures { λ r. ⌜ HowMany (λ x. ltb 0 (timesIn (neighbours (now (cv .entry)) (now (co .entry)) n (kept .0)) x)) (λ d. vertexAt (now (cv .entry))
-        (previous d)) (side true (now (co .entry)) (c0 .0) n (c0 .0)) n r ⌝ }
+        (previous d)) (sweep true (now (co .entry)) (c0 .0) n (c0 .0)) n r ⌝ }
 {
     let k = kept.0;
     let first = c0.previous_index();

@@ -6,7 +6,7 @@ use Rattle.corner.specs.Corner.{next, previous}
 use Rattle.table.specs.Slots.{nought}
 use Rattle.table.specs.Table.{table}
 use Rattle.table.specs.Meshes.{meshT, float2, float3}
-use Rattle.ring.specs.Ring.{side, ring}
+use Rattle.ring.specs.Ring.{sweep, ring}
 use Rattle.edit_plans.specs.Plans.{around}
 use Rattle.edit_collapse.specs.Collapse.{winged, either, collapseVertices, collapseOpposites, collapseMarks, collapseCorners, collapseEdge}
 
@@ -22,5 +22,5 @@ t-collapse : (x y z : Float) → collapseEdge meshT 0 (record { x = x; y = y; z 
     (nought ∷ nought ∷ nought ∷ x ∷ y ∷ z ∷ float2 ∷ nought ∷ nought ∷ float3 ∷ nought ∷ nought ∷ [])
     4
     12
-unfolding collapseEdge around collapseVertices collapseOpposites collapseMarks collapseCorners winged either ring side next previous
+unfolding collapseEdge around collapseVertices collapseOpposites collapseMarks collapseCorners winged either ring sweep next previous
 t-collapse x y z = refl

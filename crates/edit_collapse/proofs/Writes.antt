@@ -3,7 +3,7 @@ use Prim.Native.Nat.{ℕ}
 use mathlib.Core.Path.{_≡_}
 use mathlib.Core.List.{List}
 use lib.ListN.{set}
-use Rattle.table.specs.Slots.{cornerAt, paired, relabel}
+use Rattle.table.specs.Slots.{cornerAt, withPair, relabel}
 use Rattle.ring.specs.Ring.{ring}
 use Rattle.edit_plans.specs.declared.Around.{Around}
 use Rattle.edit_collapse.specs.Collapse.{winged, either, collapseVertices, collapseOpposites, collapseMarks, collapseCorners}
@@ -13,8 +13,8 @@ pub collapse-vertices-made : (p : Around) (n : ℕ) (co vc cv : List ℕ) {c : �
 unfolding collapseVertices
 collapse-vertices-made p n co vc cv r h = rw (h, r)
 
-pub collapse-opposites-made : (p : Around) (co : List ℕ) {l1 l2 : List ℕ} → l1 ≡ paired co (p .o0 .0) (p .o2 .0)
-    → l2 ≡ paired l1 (p .o5 .0) (p .o3 .0) → l2 ≡ collapseOpposites p co
+pub collapse-opposites-made : (p : Around) (co : List ℕ) {l1 l2 : List ℕ} → l1 ≡ withPair co (p .o0 .0) (p .o2 .0)
+    → l2 ≡ withPair l1 (p .o5 .0) (p .o3 .0) → l2 ≡ collapseOpposites p co
 unfolding collapseOpposites
 collapse-opposites-made p co h1 h2 = rw (h2, h1)
 

@@ -18,7 +18,7 @@ use lib.Dec.{eqb}
 use lib.ListN.{set}
 use Rattle.corner.specs.Corner.{absent, next, previous}
 use Rattle.vertex.specs.declared.Point.{Point}
-use Rattle.table.specs.Slots.{cornerAt, paired, relabel, withPoint}
+use Rattle.table.specs.Slots.{cornerAt, withPair, relabel, withPoint}
 use Rattle.table.specs.Table.{Table, table}
 use Rattle.ring.specs.Ring.{ring}
 use Rattle.edit_plans.specs.declared.Around.{Around}
@@ -38,7 +38,7 @@ unfoldable pub collapseVertices : Around → (n : ℕ) → (co vc cv : List ℕ)
 collapseVertices p n co vc cv = relabel (ring co n (cornerAt vc (p .v0 .0))) (p .v2 .0) cv
 
 unfoldable pub collapseOpposites : Around → List ℕ → List ℕ
-collapseOpposites p co = paired (paired co (p .o0 .0) (p .o2 .0)) (p .o5 .0) (p .o3 .0)
+collapseOpposites p co = withPair (withPair co (p .o0 .0) (p .o2 .0)) (p .o5 .0) (p .o3 .0)
 
 unfoldable pub collapseMarks : Around → List ℕ → List ℕ
 collapseMarks p cm =

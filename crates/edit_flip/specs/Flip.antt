@@ -12,7 +12,7 @@
 use Prim.Native.Nat.{ℕ}
 use mathlib.Core.List.{List}
 use lib.ListN.{set}
-use Rattle.table.specs.Slots.{paired}
+use Rattle.table.specs.Slots.{withPair}
 use Rattle.table.specs.Table.{Table, withCornerVertex, withCornerOpposite, withVertexCorner}
 use Rattle.edit_plans.specs.declared.Around.{Around}
 use Rattle.edit_plans.specs.Plans.{around}
@@ -28,11 +28,11 @@ flipVertices p cv =
 
 unfoldable pub flipOpposites : Around → List ℕ → List ℕ
 flipOpposites p co =
-    let l1 : List ℕ = paired co (p .c0 .0) (p .o5 .0) in
-    let l2 : List ℕ = paired l1 (p .c1 .0) (p .c4 .0) in
-    let l3 : List ℕ = paired l2 (p .c2 .0) (p .o0 .0) in
-    let l4 : List ℕ = paired l3 (p .c3 .0) (p .o2 .0) in
-    paired l4 (p .c5 .0) (p .o3 .0)
+    let l1 : List ℕ = withPair co (p .c0 .0) (p .o5 .0) in
+    let l2 : List ℕ = withPair l1 (p .c1 .0) (p .c4 .0) in
+    let l3 : List ℕ = withPair l2 (p .c2 .0) (p .o0 .0) in
+    let l4 : List ℕ = withPair l3 (p .c3 .0) (p .o2 .0) in
+    withPair l4 (p .c5 .0) (p .o3 .0)
 
 unfoldable pub flipCorners : Around → List ℕ → List ℕ
 flipCorners p vc =

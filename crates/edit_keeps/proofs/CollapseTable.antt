@@ -26,7 +26,7 @@ use Rattle.vertex.specs.declared.Point.{Point}
 use Rattle.vertex.specs.Point.{finitePoint}
 use Rattle.table.specs.Table.{Table, table, Live, LiveVertex, opposite, vertex, corner, Shaped}
 use Rattle.table.specs.Rules.{WellFormed}
-use Rattle.table.specs.Slots.{paired, markAt, pointAt, withPoint}
+use Rattle.table.specs.Slots.{withPair, markAt, pointAt, withPoint}
 use Rattle.fan.proofs.Tables.{table-linked, table-fan, fan-table, inside}
 use Rattle.edit_keeps.proofs.Writes.{paired-seen, mark-set, placed-here, placed-other}
 
@@ -46,7 +46,7 @@ module _ (t : Table) (Z : Shaped t) (W : WellFormed t) (c1 c2 c0 c4 c5 c3 o2 o0 
   cv′ = relabel about (vertex t c2) (t .cornerVertex)
 
   unfoldable pub co′ : List ℕ
-  co′ = paired (paired (t .cornerOpposite) o0 o2) o5 o3
+  co′ = withPair (withPair (t .cornerOpposite) o0 o2) o5 o3
 
   unfoldable pub cm′ : List ℕ
   cm′ = set (set (set (set (set (set (t .cornerMark) c4 1) c5 1) c3 1) c1 1) c2 1) c0 1

@@ -15,13 +15,13 @@ use Rattle.table.specs.Table.{Table, table, Live, LiveVertex, opposite, vertex,
 use Rattle.table.specs.Rules.{WellFormed}
 use Rattle.edit_plans.specs.Plans.{around}
 use Rattle.edit_flip.specs.Flip.{flipVertices, flipOpposites, flipCorners, flipEdge}
-use Rattle.table.specs.Slots.{paired}
+use Rattle.table.specs.Slots.{withPair}
 use Rattle.fan.proofs.Tables.{table-linked, table-fan, fan-table, inside}
 use Rattle.edit_keeps.proofs.Writes.{paired-seen}
 
 -- edit.rs, flip_edge: the reads first, then the writes in their order
 abbrev pub flipCo : List ℕ → (c0 c1 c2 c3 c4 c5 o5 o0 o2 o3 : ℕ) → List ℕ
-flipCo o c0 c1 c2 c3 c4 c5 o5 o0 o2 o3 = paired (paired (paired (paired (paired o c0 o5) c1 c4) c2 o0) c3 o2) c5 o3
+flipCo o c0 c1 c2 c3 c4 c5 o5 o0 o2 o3 = withPair (withPair (withPair (withPair (withPair o c0 o5) c1 c4) c2 o0) c3 o2) c5 o3
 
 abbrev pub flipCv : List ℕ → (c0 c1 c2 c3 c4 c5 v0 v1 v2 v3 : ℕ) → List ℕ
 flipCv l c0 c1 c2 c3 c4 c5 v0 v1 v2 v3 = set (set (set (set (set (set l c0 v1) c1 v2) c2 v3) c3 v3) c4 v0) c5 v1

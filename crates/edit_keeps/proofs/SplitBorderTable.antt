@@ -27,7 +27,7 @@ use Rattle.vertex.specs.declared.Point.{Point}
 use Rattle.vertex.specs.Point.{finitePoint}
 use Rattle.table.specs.Table.{Table, table, Live, LiveVertex, opposite, vertex, corner, Shaped}
 use Rattle.table.specs.Rules.{WellFormed}
-use Rattle.table.specs.Slots.{paired, three, markAt, pointAt}
+use Rattle.table.specs.Slots.{withPair, three, markAt, pointAt}
 use Rattle.fan.proofs.Tables.{table-linked, table-fan, fan-table}
 use Rattle.edit_keeps.proofs.Writes.{paired-seen, three-seen, three-old, in-three, marks-grown}
 use Rattle.edit_keeps.proofs.NewVertex.{LiveV1, old-vertex, new-one, was-vertex, vertex-marks, split-finite}
@@ -42,7 +42,7 @@ module _ (t : Table) (Z : Shaped t) (W : WellFormed t) (room : t .corners + 3 �
   cv′ = relabel cs (t .vertices) (three (t .cornerVertex) (t .corners) (vertex t c1) (t .vertices) (vertex t c2))
 
   unfoldable pub co′ : List ℕ
-  co′ = paired (paired (three (t .cornerOpposite) (t .corners) absent absent absent) (opposite t c0) (t .corners + 2)) c0 (t .corners + 1)
+  co′ = withPair (withPair (three (t .cornerOpposite) (t .corners) absent absent absent) (opposite t c0) (t .corners + 2)) c0 (t .corners + 1)
 
   unfoldable pub vc′ : List ℕ
   vc′ = set (set (t .vertexCorner) (vertex t c2) c2) (t .vertices) (t .corners + 1)

@@ -18,7 +18,7 @@ use Rattle.vertex.specs.declared.Point.{Point}
 use Rattle.vertex.specs.Point.{finitePoint}
 use Rattle.table.specs.Table.{Table, table, Live, LiveVertex, opposite, vertex, corner, Shaped}
 use Rattle.table.specs.Rules.{WellFormed}
-use Rattle.table.specs.Slots.{paired, pointAt, withPoint}
+use Rattle.table.specs.Slots.{withPair, pointAt, withPoint}
 use Rattle.fan.proofs.Tables.{table-linked, table-fan, fan-table, inside}
 use Rattle.edit_keeps.proofs.Writes.{paired-seen, push6, push6-seen, push6-old, six-push6}
 use Rattle.edit_keeps.proofs.SplitInner.{in-six}
@@ -31,7 +31,7 @@ module _ (t : Table) (Z : Shaped t) (W : WellFormed t) (room : t .corners + 6 �
     (c0 c1 c2 : ℕ) (f0 : Face3 c0 c1 c2) (l0 : Live t c0) (l1 : Live t c1) (l2 : Live t c2)
     (vp′ : List Float) (good : (v : ℕ) → LiveV1 t v → finitePoint (pointAt vp′ v) ≡ true) where
   unfoldable pub co′ : List ℕ
-  co′ = paired (paired (paired (paired (paired (push6 (t .cornerOpposite) (t .corners) absent absent absent absent absent absent) c0 (t .corners + 1)) (t .corners) (t .corners + 4)) (t .corners + 3) c1) (t .corners + 5) (opposite t c1)) (t .corners + 2) (opposite t c0)
+  co′ = withPair (withPair (withPair (withPair (withPair (push6 (t .cornerOpposite) (t .corners) absent absent absent absent absent absent) c0 (t .corners + 1)) (t .corners) (t .corners + 4)) (t .corners + 3) c1) (t .corners + 5) (opposite t c1)) (t .corners + 2) (opposite t c0)
 
   unfoldable pub cv′ : List ℕ
   cv′ = set (push6 (t .cornerVertex) (t .corners) (vertex t c1) (vertex t c2) (t .vertices) (vertex t c2) (vertex t c0) (t .vertices)) c2 (t .vertices)

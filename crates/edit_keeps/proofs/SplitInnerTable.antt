@@ -25,7 +25,7 @@ use Rattle.vertex.specs.declared.Point.{Point}
 use Rattle.vertex.specs.Point.{finitePoint}
 use Rattle.table.specs.Table.{Table, table, Live, LiveVertex, opposite, vertex, corner, Shaped}
 use Rattle.table.specs.Rules.{WellFormed}
-use Rattle.table.specs.Slots.{paired, pointAt}
+use Rattle.table.specs.Slots.{withPair, pointAt}
 use Rattle.fan.proofs.Tables.{table-linked, table-fan, fan-table, inside}
 use Rattle.edit_keeps.proofs.Writes.{paired-seen, push6, push6-seen, push6-old, six-push6}
 use Rattle.edit_keeps.proofs.NewFaces.{grow, fresh, shrink, corner-marks, face-marks, next6, next7, next9, next10}
@@ -73,13 +73,13 @@ module _ (t : Table) (Z : Shaped t) (W : WellFormed t) (room : t .corners + 6 �
   co0 = push6 (t .cornerOpposite) n absent absent absent absent absent absent
 
   unfoldable pub o1 : List ℕ
-  o1 = paired co0 (opposite t c0) (n + 2)
+  o1 = withPair co0 (opposite t c0) (n + 2)
 
   unfoldable pub b5 : ℕ
   b5 = getD o1 c5 absent
 
   unfoldable pub co′ : List ℕ
-  co′ = paired (paired (paired (paired o1 b5 (n + 5)) c0 (n + 1)) c5 (n + 3)) n (n + 4)
+  co′ = withPair (withPair (withPair (withPair o1 b5 (n + 5)) c0 (n + 1)) c5 (n + 3)) n (n + 4)
 
   abbrev pub cm′ : List ℕ
   cm′ = push6 (t .cornerMark) n 0 0 0 0 0 0

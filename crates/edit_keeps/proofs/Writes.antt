@@ -9,11 +9,11 @@ use lib.Ieee.{Float}
 use lib.ListN.{length, getD, set, length-set, List·getD-eq-default}
 use lib.Seq.{getD-set-same, getD-set-other}
 use Rattle.vertex.specs.declared.Point.{Point}
-use Rattle.table.specs.Slots.{markAt, nought, pointAt, withPoint, paired, three}
+use Rattle.table.specs.Slots.{markAt, nought, pointAt, withPoint, withPair, three}
 use Rattle.fan.proofs.Redirect.{at, at-other, at-ind, Seen, set-seen, set-at}
 use Rattle.edit_plans.specs.Plans.{six}
 
-pub paired-seen : {o : List ℕ} {f : ℕ → ℕ} {x d : ℕ} (a b : ℕ) → Seen o f x d → Seen (paired o a b) (at b a (at a b f)) x d
+pub paired-seen : {o : List ℕ} {f : ℕ → ℕ} {x d : ℕ} (a b : ℕ) → Seen o f x d → Seen (withPair o a b) (at b a (at a b f)) x d
 paired-seen a b s = set-seen b a (set-seen a b s)
 
 -- six slots written at the end

@@ -7,7 +7,7 @@ use Rattle.vertex.specs.declared.Point.{Point}
 use Rattle.table.specs.Slots.{nought}
 use Rattle.table.specs.Table.{Table, table, extended}
 use Rattle.table.specs.Meshes.{meshA, meshB, float1, float2, float3}
-use Rattle.ring.specs.Ring.{side, ring}
+use Rattle.ring.specs.Ring.{sweep, ring}
 use Rattle.edit_plans.specs.Plans.{triangle, around}
 use Rattle.edit_split_edge.specs.SplitEdge.{splitPoints, splitCorners, innerVertices, innerOpposites, splitInnerEdge, boundaryVertices, boundaryOpposites, splitBoundaryEdge, splitEdge}
 
@@ -40,7 +40,7 @@ module _ (x y z : Float) where
       (nought ∷ nought ∷ nought ∷ x ∷ y ∷ z ∷ float2 ∷ nought ∷ nought ∷ float1 ∷ nought ∷ nought ∷ [])
       4
       6
-  unfolding splitEdge splitBoundaryEdge triangle boundaryVertices boundaryOpposites splitCorners splitPoints ring side next previous
+  unfolding splitEdge splitBoundaryEdge triangle boundaryVertices boundaryOpposites splitCorners splitPoints ring sweep next previous
   a-split-edge = refl
 
   -- "B, split edge 1: corners 0 1 2 0 2 3 1 4 2 4 3 2; pairs 1-5, 0-7, 3-9, 6-10; vertex corners 3, 1, 2, 5, 7."
@@ -54,7 +54,7 @@ module _ (x y z : Float) where
       (nought ∷ nought ∷ nought ∷ float1 ∷ nought ∷ nought ∷ x ∷ y ∷ z ∷ float3 ∷ nought ∷ nought ∷ float2 ∷ nought ∷ nought ∷ [])
       5
       12
-  unfolding splitEdge splitInnerEdge around innerVertices innerOpposites splitCorners splitPoints ring side next previous
+  unfolding splitEdge splitInnerEdge around innerVertices innerOpposites splitCorners splitPoints ring sweep next previous
   b-split-edge = refl
 
   -- "in an inner edge split where the moved vertex has only the two faces of that edge and no border, the Rust's second read must see the
@@ -69,5 +69,5 @@ module _ (x y z : Float) where
       (nought ∷ nought ∷ nought ∷ x ∷ y ∷ z ∷ float2 ∷ nought ∷ nought ∷ float1 ∷ nought ∷ nought ∷ [])
       4
       12
-  unfolding splitEdge splitInnerEdge around innerVertices innerOpposites splitCorners splitPoints ring side next previous
+  unfolding splitEdge splitInnerEdge around innerVertices innerOpposites splitCorners splitPoints ring sweep next previous
   pillow-split-edge = refl

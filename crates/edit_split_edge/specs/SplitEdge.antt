@@ -9,7 +9,7 @@ use lib.ListN.{set}
 use lib.Ieee.{Float}
 use Rattle.corner.specs.Corner.{absent, previous}
 use Rattle.vertex.specs.declared.Point.{Point}
-use Rattle.table.specs.Slots.{oppositeAt, pointAt, paired, three, relabel, withPoint}
+use Rattle.table.specs.Slots.{oppositeAt, pointAt, withPair, three, relabel, withPoint}
 use Rattle.table.specs.Table.{Table, table, opposite}
 use Rattle.ring.specs.Ring.{ring}
 use Rattle.edit_plans.specs.declared.Around.{Around}
@@ -49,11 +49,11 @@ innerVertices p u n co cv =
 -- first write": the opposite of c5 is read after that of c0 has been rewritten
 unfoldable pub innerOpposites : Around → (n : ℕ) → List ℕ → List ℕ
 innerOpposites p n co =
-    let l1 : List ℕ = paired (six co n absent absent absent absent absent absent) (p .o0 .0) (n + 2) in
-    let l2 : List ℕ = paired l1 (oppositeAt l1 (p .c5 .0)) (n + 5) in
-    let l3 : List ℕ = paired l2 (p .c0 .0) (n + 1) in
-    let l4 : List ℕ = paired l3 (p .c5 .0) (n + 3) in
-    paired l4 n (n + 4)
+    let l1 : List ℕ = withPair (six co n absent absent absent absent absent absent) (p .o0 .0) (n + 2) in
+    let l2 : List ℕ = withPair l1 (oppositeAt l1 (p .c5 .0)) (n + 5) in
+    let l3 : List ℕ = withPair l2 (p .c0 .0) (n + 1) in
+    let l4 : List ℕ = withPair l3 (p .c5 .0) (n + 3) in
+    withPair l4 n (n + 4)
 
 abbrev pub innerSplit : Around → Table → Point → Table
 innerSplit p t at =
@@ -87,8 +87,8 @@ boundaryVertices p u n co cv =
 
 unfoldable pub boundaryOpposites : Triangle → (n : ℕ) → List ℕ → List ℕ
 boundaryOpposites p n co =
-    let l1 : List ℕ = paired (three co n absent absent absent) (p .o0 .0) (n + 2) in
-    paired l1 (p .c0 .0) (n + 1)
+    let l1 : List ℕ = withPair (three co n absent absent absent) (p .o0 .0) (n + 2) in
+    withPair l1 (p .c0 .0) (n + 1)
 
 abbrev pub boundarySplit : Triangle → Table → Point → Table
 boundarySplit p t at =

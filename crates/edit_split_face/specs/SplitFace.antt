@@ -12,7 +12,7 @@ use mathlib.Core.List.{List}
 use lib.ListN.{set}
 use Rattle.corner.specs.Corner.{absent, firstCorner}
 use Rattle.vertex.specs.declared.Point.{Point}
-use Rattle.table.specs.Slots.{paired, withPoint}
+use Rattle.table.specs.Slots.{withPair, withPoint}
 use Rattle.table.specs.Table.{Table, table}
 use Rattle.edit_plans.specs.declared.Triangle.{Triangle}
 use Rattle.edit_plans.specs.Plans.{triangle, six}
@@ -22,11 +22,11 @@ faceVertices p u n cv = set (six cv n (p .v1 .0) (p .v2 .0) u (p .v2 .0) (p .v0 
 
 unfoldable pub faceOpposites : Triangle → (n : ℕ) → List ℕ → List ℕ
 faceOpposites p n co =
-    let l1 : List ℕ = paired (six co n absent absent absent absent absent absent) (p .c0 .0) (n + 1) in
-    let l2 : List ℕ = paired l1 n (n + 4) in
-    let l3 : List ℕ = paired l2 (n + 3) (p .c1 .0) in
-    let l4 : List ℕ = paired l3 (n + 5) (p .o1 .0) in
-    paired l4 (n + 2) (p .o0 .0)
+    let l1 : List ℕ = withPair (six co n absent absent absent absent absent absent) (p .c0 .0) (n + 1) in
+    let l2 : List ℕ = withPair l1 n (n + 4) in
+    let l3 : List ℕ = withPair l2 (n + 3) (p .c1 .0) in
+    let l4 : List ℕ = withPair l3 (n + 5) (p .o1 .0) in
+    withPair l4 (n + 2) (p .o0 .0)
 
 unfoldable pub faceCorners : Triangle → (u n : ℕ) → List ℕ → List ℕ
 faceCorners p u n vc = set (set vc u (p .c2 .0)) (p .v2 .0) (n + 1)

@@ -18,7 +18,7 @@ use Rattle.fan.proofs.Walk.{it, Stop, border, closes, Walk}
 use Rattle.fan.proofs.Ring.{stuckL, stuckR}
 use Rattle.fan.proofs.Visits.{after, w, v, leftward, rightward}
 use Rattle.fan.proofs.Tables.{table-linked}
-use Rattle.ring.specs.Ring.{Side, side, ring as ringOf}
+use Rattle.ring.specs.Ring.{Sweep, sweep, ring as ringOf}
 use Rattle.ring.proofs.Exact.{bordered, side-is}
 use Rattle.traversal_lists.specs.declared.Kind.the-variants.{Vertices}
 use Rattle.traversal_visits.specs.Walk.{walk, visits}
@@ -61,9 +61,9 @@ module _ (t : Table) (Z : Shaped t) (W : WellFormed t) where
     rights = v L (t .corners) (λ d k. k .0) c h
 
     by-end : (x : Stop (stuckL (oppositeAt co)) (swingL (oppositeAt co)) c (it (swingL (oppositeAt co)) c (lefts .last)))
-        → side true co c (t .corners) c
+        → sweep true co c (t .corners) c
         ≡ record { visits = after (it (swingL (oppositeAt co)) c) 0 (lefts .last); border = bordered (Live t) co (t .corners) true c lefts x }
-        → side false co c (t .corners) c
+        → sweep false co c (t .corners) c
         ≡ record { visits = after (it (swingR (oppositeAt co)) c) 0 (rights .last); border = bordered (Live t) co (t .corners) false c rights (rights .ends) }
         → Healthy co (t .cornerMark) (t .corners) L c h → ringOf co (t .corners) c ≡ visits (walk co (t .cornerMark) (t .corners) c)
     unfolding ringOf leftward rightward
@@ -78,12 +78,12 @@ module _ (t : Table) (Z : Shaped t) (W : WellFormed t) where
 
     -- and a ring without a border has the neighbours that `ring_vertices` lists
     neighbours-by : (x : Stop (stuckL (oppositeAt co)) (swingL (oppositeAt co)) c (it (swingL (oppositeAt co)) c (lefts .last)))
-        → side true co c (t .corners) c
+        → sweep true co c (t .corners) c
         ≡ record { visits = after (it (swingL (oppositeAt co)) c) 0 (lefts .last); border = bordered (Live t) co (t .corners) true c lefts x }
         → Healthy co (t .cornerMark) (t .corners) L c h → meetsBorder co (t .corners) c ≡ false
         → neighbours (t .cornerVertex) co (t .corners) c ≡ entries Vertices (t .cornerVertex) (walk co (t .cornerMark) (t .corners) c)
     unfolding meetsBorder neighbours leftward entry
-    neighbours-by (border s) p k m = absurd (false≢true (sym m ∙ ap (λ (x : Side). x .border) p))
+    neighbours-by (border s) p k m = absurd (false≢true (sym m ∙ ap (λ (x : Sweep). x .border) p))
     neighbours-by (closes s z) p (ring a b e) m = rw (p, e)
     neighbours-by (closes s z) p (fan a b e) m = absurd (s a)
 

@@ -9,7 +9,7 @@ use Rattle.vertex.specs.Point.{pointOfBits}
 use Rattle.table.specs.Slots.{nought}
 use Rattle.table.specs.Table.{extended, shapedBy, live}
 use Rattle.table.specs.Meshes.{meshA, meshB, meshT, float1, float2, float3}
-use Rattle.ring.specs.Ring.{side, ring}
+use Rattle.ring.specs.Ring.{sweep, ring}
 use Rattle.edit_plans.specs.Plans.{around}
 use Rattle.edit_collapse.specs.Collapse.{winged, either, collapseVertices, collapseOpposites, collapseMarks, collapseCorners, collapseEdge}
 use Rattle.edge_collapse.specs.EdgeCollapse.{meetsBorder, neighbours, timesIn, commonIn, affectsBoundary, unsafe}
@@ -19,7 +19,7 @@ use Rattle.script_answers.specs.Answers.{collapseAnswer, flipAnswer, splitEdgeA
 use Rattle.script_command.specs.Decode.{decoded, commandAt}
 use Rattle.script_step.specs.Step.{effect, step}
 use Rattle.checker_kinds.specs.Kinds.{testAt, ruleOf, span, slotOf}
-use Rattle.checker_rules.specs.Near.{swing, near}
+use Rattle.checker_rules.specs.Near.{beside, near}
 use Rattle.checker_rules.specs.Tests.{countsTest, markTest, faceTest, vertexTest, differTest, backTest, matesTest, oppositeTest}
 use Rattle.checker_rules.specs.Tests.{cornerTest, fanTest, pointTest, holds}
 use Rattle.checker.specs.First.{firstFrom, firstBad}
@@ -52,17 +52,17 @@ b-split-edge-done = refl
 
 -- "B, collapse 1: 11"
 pub b-collapse : answer meshB (Collapse (record { 0 = 1 }) origin) ≡ 11
-unfolding answer collapseAnswer targeted first affectsBoundary meetsBorder side next previous nought ofBits
+unfolding answer collapseAnswer targeted first affectsBoundary meetsBorder sweep next previous nought ofBits
 b-collapse = refl
 
 -- "T, collapse 0" is done
 pub t-collapse : answer meshT (Collapse (record { 0 = 0 }) origin) ≡ 0
-unfolding answer collapseAnswer targeted first affectsBoundary meetsBorder unsafe neighbours timesIn commonIn side next previous nought ofBits
+unfolding answer collapseAnswer targeted first affectsBoundary meetsBorder unsafe neighbours timesIn commonIn sweep next previous nought ofBits
 t-collapse = refl
 
 -- "Then collapse 3: 12"
 pub t-then : answer (step meshT (Collapse (record { 0 = 0 }) origin)) (Collapse (record { 0 = 3 }) origin) ≡ 12
-unfolding step effect answer collapseAnswer targeted first affectsBoundary meetsBorder unsafe neighbours timesIn commonIn collapseEdge around collapseVertices collapseOpposites collapseMarks collapseCorners winged either ring side next previous nought ofBits
+unfolding step effect answer collapseAnswer targeted first affectsBoundary meetsBorder unsafe neighbours timesIn commonIn collapseEdge around collapseVertices collapseOpposites collapseMarks collapseCorners winged either ring sweep next previous nought ofBits
 t-then = refl
 
 -- ---- the same as whole runs from lists of words: the check, the words decoded, one answer word to a command, the last word unused
@@ -71,14 +71,14 @@ abbrev b-script : List ℕ
 b-script = 2 ∷ 0 ∷ 0 ∷ 0 ∷ 0 ∷ 1 ∷ 1 ∷ 0 ∷ 0 ∷ 0 ∷ []
 
 pub b-run : run meshB b-script (99 ∷ 99 ∷ 99 ∷ []) ≡ whole 0 0 0 (progress (11 ∷ 11 ∷ 99 ∷ []) meshB)
-unfolding run fits commands commandAt decoded pointOfBits step effect answer collapseAnswer flipAnswer targeted first affectsBoundary meetsBorder side verdictOf ruled clean firstOf slotOf span ruleOf testAt holds pointTest fanTest cornerTest oppositeTest matesTest backTest differTest vertexTest faceTest markTest countsTest near swing firstBad firstFrom float3 float2 float1 nought live shapedBy previous next ofBits
+unfolding run fits commands commandAt decoded pointOfBits step effect answer collapseAnswer flipAnswer targeted first affectsBoundary meetsBorder sweep verdictOf ruled clean firstOf slotOf span ruleOf testAt holds pointTest fanTest cornerTest oppositeTest matesTest backTest differTest vertexTest faceTest markTest countsTest near beside firstBad firstFrom float3 float2 float1 nought live shapedBy previous next ofBits
 b-run = refl
 
 abbrev t-script : List ℕ
 t-script = 1 ∷ 0 ∷ 0 ∷ 0 ∷ 0 ∷ 1 ∷ 3 ∷ 0 ∷ 0 ∷ 0 ∷ []
 
 pub t-run : run meshT t-script (99 ∷ 99 ∷ 99 ∷ []) .progress .answers ≡ 0 ∷ 12 ∷ 99 ∷ []
-unfolding run fits commands commandAt decoded pointOfBits step effect answer collapseAnswer targeted first affectsBoundary meetsBorder unsafe neighbours timesIn commonIn collapseEdge around collapseVertices collapseOpposites collapseMarks collapseCorners winged either ring side verdictOf ruled clean firstOf slotOf span ruleOf testAt holds pointTest fanTest cornerTest oppositeTest matesTest backTest differTest vertexTest faceTest markTest countsTest near swing firstBad firstFrom float3 float2 float1 nought live shapedBy previous next ofBits
+unfolding run fits commands commandAt decoded pointOfBits step effect answer collapseAnswer targeted first affectsBoundary meetsBorder unsafe neighbours timesIn commonIn collapseEdge around collapseVertices collapseOpposites collapseMarks collapseCorners winged either ring sweep verdictOf ruled clean firstOf slotOf span ruleOf testAt holds pointTest fanTest cornerTest oppositeTest matesTest backTest differTest vertexTest faceTest markTest countsTest near beside firstBad firstFrom float3 float2 float1 nought live shapedBy previous next ofBits
 t-run = refl
 
 -- "A with room for 3 vertices, split face: 5. With 4 vertices and 8 corners: 6; with 9: done."

@@ -14,7 +14,7 @@ use Rattle.table.specs.Table.{Table, vertex, opposite, corner, Live, Shaped}
 use Rattle.table.specs.Rules.{WellFormed}
 use Rattle.fan.proofs.Fan.{Linked, face-previous}
 use Rattle.fan.proofs.Tables.{table-linked}
-use Rattle.ring.specs.Ring.{Side, stop, more, side, ring}
+use Rattle.ring.specs.Ring.{Sweep, stop, more, sweep, ring}
 use Rattle.edit_plans.specs.Plans.{around, triangle}
 use Rattle.edge_collapse.specs.EdgeCollapse.{meetsBorder, neighbours, affectsBoundary, neighbourRing, unsafe}
 use Rattle.promises.specs.Rooms.{Roomier}
@@ -49,8 +49,8 @@ module _ {t u : Table} (S : Roomier t u) where
     turned false c h = face-previous L c h
 
     -- a walk stands on live corners alone
-    side-same : (left : Bool) (c₀ n c : ℕ) → Live t c → side left (t .cornerOpposite) c₀ n c ≡ side left (u .cornerOpposite) c₀ n c
-    unfolding side
+    side-same : (left : Bool) (c₀ n c : ℕ) → Live t c → sweep left (t .cornerOpposite) c₀ n c ≡ sweep left (u .cornerOpposite) c₀ n c
+    unfolding sweep
     side-same left c₀ zero c h = refl
     side-same left c₀ (suc n) c h = rw (← (same-opposite (turn left c) (turned left c h .0))) (go (ℕ-discrete o absent) (λ k. side-same left c₀ n (turn left o) k))
       where
@@ -58,9 +58,9 @@ module _ {t u : Table} (S : Roomier t u) where
         o = opposite t (turn left c)
 
         go : Dec (o ≡ absent)
-            → (Live t (turn left o) → side left (t .cornerOpposite) c₀ n (turn left o) ≡ side left (u .cornerOpposite) c₀ n (turn left o))
-            → cond (eqb o absent) (stop true) (cond (eqb (turn left o) c₀) (stop false) (more (turn left o) (side left (t .cornerOpposite) c₀ n (turn left o))))
-            ≡ cond (eqb o absent) (stop true) (cond (eqb (turn left o) c₀) (stop false) (more (turn left o) (side left (u .cornerOpposite) c₀ n (turn left o))))
+            → (Live t (turn left o) → sweep left (t .cornerOpposite) c₀ n (turn left o) ≡ sweep left (u .cornerOpposite) c₀ n (turn left o))
+            → cond (eqb o absent) (stop true) (cond (eqb (turn left o) c₀) (stop false) (more (turn left o) (sweep left (t .cornerOpposite) c₀ n (turn left o))))
+            ≡ cond (eqb o absent) (stop true) (cond (eqb (turn left o) c₀) (stop false) (more (turn left o) (sweep left (u .cornerOpposite) c₀ n (turn left o))))
         go (yes e) r = rw (eq-eqb o absent e)
         go (no e) r = rw (r (turned left o (L .over (turn left c) (turned left c h) e)))
 
@@ -70,7 +70,7 @@ module _ {t u : Table} (S : Roomier t u) where
 
     pub border-same : (c : ℕ) → Live t c → meetsBorder (t .cornerOpposite) (t .corners) c ≡ meetsBorder (u .cornerOpposite) (t .corners) c
     unfolding meetsBorder
-    border-same c h = ap (λ (x : Side). x .border) (side-same true c (t .corners) c h)
+    border-same c h = ap (λ (x : Sweep). x .border) (side-same true c (t .corners) c h)
 
     -- the vertices before the corners of a walk
     abbrev f : ℕ → ℕ
@@ -82,8 +82,8 @@ module _ {t u : Table} (S : Roomier t u) where
     named : (d : ℕ) → Live t d → f d ≡ g d
     named d h = same-vertex (previous d) (face-previous L d h .0)
 
-    named-all : (c₀ n c : ℕ) → Live t c → map f (side true (t .cornerOpposite) c₀ n c .visits) ≡ map g (side true (t .cornerOpposite) c₀ n c .visits)
-    unfolding side
+    named-all : (c₀ n c : ℕ) → Live t c → map f (sweep true (t .cornerOpposite) c₀ n c .visits) ≡ map g (sweep true (t .cornerOpposite) c₀ n c .visits)
+    unfolding sweep
     named-all c₀ zero c h = refl
     named-all c₀ (suc n) c h = go (ℕ-discrete o absent) (eqb d c₀) (λ k. named-all c₀ n d k)
       where
@@ -94,9 +94,9 @@ module _ {t u : Table} (S : Roomier t u) where
         d = next o
 
         go : Dec (o ≡ absent) → (b : Bool)
-            → (Live t d → map f (side true (t .cornerOpposite) c₀ n d .visits) ≡ map g (side true (t .cornerOpposite) c₀ n d .visits))
-            → map f (cond (eqb o absent) (stop true) (cond b (stop false) (more d (side true (t .cornerOpposite) c₀ n d))) .visits)
-            ≡ map g (cond (eqb o absent) (stop true) (cond b (stop false) (more d (side true (t .cornerOpposite) c₀ n d))) .visits)
+            → (Live t d → map f (sweep true (t .cornerOpposite) c₀ n d .visits) ≡ map g (sweep true (t .cornerOpposite) c₀ n d .visits))
+            → map f (cond (eqb o absent) (stop true) (cond b (stop false) (more d (sweep true (t .cornerOpposite) c₀ n d))) .visits)
+            ≡ map g (cond (eqb o absent) (stop true) (cond b (stop false) (more d (sweep true (t .cornerOpposite) c₀ n d))) .visits)
         go (yes e) b r = rw (eq-eqb o absent e)
         go (no e) true r = rw (ne-eqb o absent e)
         go (no e) false r =

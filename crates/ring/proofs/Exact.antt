@@ -15,7 +15,7 @@ use Rattle.fan.proofs.Walk.{it, Stop, border, closes, Walk}
 use Rattle.fan.proofs.Ring.{stuckL, stuckR}
 use Rattle.fan.proofs.Visits.{after, Covers, Sound, w, v, leftward, rightward, ring-covers, fan-covers, covers-sound}
 use Rattle.fan.proofs.Tables.{table-linked, table-fan}
-use Rattle.ring.specs.Ring.{side, ring}
+use Rattle.ring.specs.Ring.{sweep, ring}
 
 module _ (live : ℕ → Type 0) (co : List ℕ) (n : ℕ) (left : Bool) where
   abbrev swing : ℕ → ℕ
@@ -32,15 +32,15 @@ module _ (live : ℕ → Type 0) (co : List ℕ) (n : ℕ) (left : Bool) where
     abbrev g : ℕ → ℕ
     g i = it swing c i
 
-    side-from : (k i m : ℕ) → i + k ≡ W .last → k < m → side left co c m (g i) ≡ record { visits = after g i k; border = bordered (W .ends) }
-    unfolding side
+    side-from : (k i m : ℕ) → i + k ≡ W .last → k < m → sweep left co c m (g i) ≡ record { visits = after g i k; border = bordered (W .ends) }
+    unfolding sweep
     side-from k i zero e h = absurd (omega arith)
     side-from zero i (suc m) e h = by (W .ends)
       where
         z : W .last ≡ i
         z = omega arith
 
-        by : (x : Stop stuck swing c (it swing c (W .last))) → side left co c (suc m) (g i) ≡ record { visits = []; border = bordered x }
+        by : (x : Stop stuck swing c (it swing c (W .last))) → sweep left co c (suc m) (g i) ≡ record { visits = []; border = bordered x }
         by (border s) = rw (eq-eqb (oppositeAt co (turn left (g i))) absent (rw z at s))
         by (closes s q) =
             let s′ : oppositeAt co (turn left (g i)) ≢ absent = rw z at s in
@@ -48,11 +48,11 @@ module _ (live : ℕ → Type 0) (co : List ℕ) (n : ℕ) (left : Bool) where
             rw (ne-eqb (oppositeAt co (turn left (g i))) absent s′, eq-eqb (swing (g i)) c q′)
     side-from (suc k) i (suc m) e h = by (side-from k (suc i) m (omega arith) (omega arith))
       where
-        by : side left co c m (g (suc i)) ≡ record { visits = after g (suc i) k; border = bordered (W .ends) }
-            → side left co c (suc m) (g i) ≡ record { visits = after g i (suc k); border = bordered (W .ends) }
+        by : sweep left co c m (g (suc i)) ≡ record { visits = after g (suc i) k; border = bordered (W .ends) }
+            → sweep left co c (suc m) (g i) ≡ record { visits = after g i (suc k); border = bordered (W .ends) }
         by r = rw (ne-eqb (oppositeAt co (turn left (g i))) absent (W .moves i (omega arith)), ne-eqb (swing (g i)) c (W .opens i (omega arith)), r)
 
-    pub side-is : side left co c n c ≡ record { visits = after g 0 (W .last); border = bordered (W .ends) }
+    pub side-is : sweep left co c n c ≡ record { visits = after g 0 (W .last); border = bordered (W .ends) }
     side-is = side-from (W .last) 0 n (omega arith) (W .small)
 
 module _ {live : ℕ → Type 0} {vtx : ℕ → ℕ} (co : List ℕ) (n : ℕ) (L : Linked live (oppositeAt co) vtx) (below : (d : ℕ) → live d → d < n)
@@ -68,10 +68,10 @@ module _ {live : ℕ → Type 0} {vtx : ℕ → ℕ} (co : List ℕ) (n : ℕ) (
   ring-exact = by (wl .ends) (side-is live co n true c wl) (side-is live co n false c wr)
     where
       by : (x : Stop (stuckL (oppositeAt co)) (swingL (oppositeAt co)) c (it (swingL (oppositeAt co)) c (wl .last)))
-          → side true co c n c ≡ record { visits = after (it (swingL (oppositeAt co)) c) 0 (wl .last); border = bordered live co n true c wl x }
-          → side false co c n c ≡ record { visits = after (it (swingR (oppositeAt co)) c) 0 (wr .last); border = bordered live co n false c wr (wr .ends) }
+          → sweep true co c n c ≡ record { visits = after (it (swingL (oppositeAt co)) c) 0 (wl .last); border = bordered live co n true c wl x }
+          → sweep false co c n c ≡ record { visits = after (it (swingR (oppositeAt co)) c) 0 (wr .last); border = bordered live co n false c wr (wr .ends) }
           → Covers live (oppositeAt co) n c
-          (cond (side true co c n c .border) ((c ∷ side true co c n c .visits) ++ side false co c n c .visits) (c ∷ side true co c n c .visits))
+          (cond (sweep true co c n c .border) ((c ∷ sweep true co c n c .visits) ++ sweep false co c n c .visits) (c ∷ sweep true co c n c .visits))
       by (border s) p q = rw (p, q) (fan-covers L n below c start s)
       by (closes s e) p q = rw p (ring-covers L n below c start s e)
 

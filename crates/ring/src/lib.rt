@@ -1,13 +1,13 @@
 // The ring of a corner, walked by opposites alone, with a value stored at each corner of it.
 ghost use mathlib.Core.Path.{_≡_};
 ghost use Rattle.table.specs.Slots.{relabel};
-ghost use Rattle.ring.specs.Ring.{side, ring as ringOf, Labelled};
+ghost use Rattle.ring.specs.Ring.{sweep, ring as ringOf, Labelled};
 use corner::Corner;
 
 // v at the corners of one side of the walk from c0, after c0. Tells whether the side ended at a border. The walk stands on the corner
 // that it crosses from, as the Rust's does: a step is one opposite and its two turns.
 fn label_side(left: bool, co: &[u32], c0: Corner, room: u32, l: &mut [u32], v: u32) -> bool
-    ensures { λ r. ⌜ Labelled (side left (now (co .entry)) (c0 .0) room (c0 .0)) v (now (l .entry)) (now (l .exit)) r ⌝ }
+    ensures { λ r. ⌜ Labelled (sweep left (now (co .entry)) (c0 .0) room (c0 .0)) v (now (l .entry)) (now (l .exit)) r ⌝ }
 {
     let first = c0.0 as usize;
     let mut via = c0.turn_index(left);

@@ -31,8 +31,8 @@ abbrev pub withPoint : List Float → ℕ → Point → List Float
 withPoint vp v p = set (set (set vp (3 * v) (p .x)) (3 * v + 1) (p .y)) (3 * v + 2) (p .z)
 
 -- a and b opposite to each other. Where one is absent its slot lies past every room, and nothing is written for it
-abbrev pub paired : List ℕ → ℕ → ℕ → List ℕ
-paired co a b = set (set co a b) b a
+abbrev pub withPair : List ℕ → ℕ → ℕ → List ℕ
+withPair co a b = set (set co a b) b a
 
 -- v at each of the given slots
 abbrev pub relabel : List ℕ → ℕ → List ℕ → List ℕ

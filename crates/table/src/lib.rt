@@ -7,7 +7,7 @@ ghost use mathlib.Core.Path.{_≡_};
 ghost use Prim.Native.Nat.{_+_, _*_, _<_};
 ghost use lib.ListN.{getD, set, length};
 ghost use Rattle.corner.specs.Corner.{absent};
-ghost use Rattle.table.specs.Slots.{vertexAt, oppositeAt, cornerAt, nought, pointAt, withPoint, paired, three, blanked};
+ghost use Rattle.table.specs.Slots.{vertexAt, oppositeAt, cornerAt, nought, pointAt, withPoint, withPair, three, blanked};
 ghost use Rattle.table.specs.Table.{blank as blankOf, Shaped, shapedBy, live};
 ghost use Rattle.table.specs.Lent.{countsOf, lent, after};
 use corner::Corner;
@@ -93,7 +93,7 @@ pub fn put_there(l: &mut [u32], i: u32, v: u32)
 // Makes a, whose slot is there, and b, which may be absent, opposite to each other.
 pub fn pair_there(co: &mut [u32], a: Corner, b: Corner)
     requires { ⌜ a .0 < length (now co) ⌝ }
-    ensures { λ r. ⌜ now (co .exit) ≡ paired (now (co .entry)) (a .0) (b .0) ⌝ }
+    ensures { λ r. ⌜ now (co .exit) ≡ withPair (now (co .entry)) (a .0) (b .0) ⌝ }
 {
     put_there(co, a.0, b.0);
     put(co, b.0 as usize, a.0);
@@ -127,7 +127,7 @@ pub fn set_opposite(co: &mut [u32], c: Corner, o: Corner)
 
 // Makes the given corners opposite to each other.
 pub fn set_opposite_relationship(co: &mut [u32], a: Corner, b: Corner)
-    ensures { λ r. ⌜ now (co .exit) ≡ paired (now (co .entry)) (a .0) (b .0) ⌝ }
+    ensures { λ r. ⌜ now (co .exit) ≡ withPair (now (co .entry)) (a .0) (b .0) ⌝ }
 {
     set_opposite(co, a, b);
     set_opposite(co, b, a);
@@ -135,7 +135,7 @@ pub fn set_opposite_relationship(co: &mut [u32], a: Corner, b: Corner)
 
 // The same, where either may be absent: the absent corner's slot lies past every room, so that nothing is written for it.
 pub fn make_corners_opposite(co: &mut [u32], a: Corner, b: Corner)
-    ensures { λ r. ⌜ now (co .exit) ≡ paired (now (co .entry)) (a .0) (b .0) ⌝ }
+    ensures { λ r. ⌜ now (co .exit) ≡ withPair (now (co .entry)) (a .0) (b .0) ⌝ }
 {
     set_opposite_relationship(co, a, b);
 }

@@ -10,24 +10,24 @@ use Rattle.table.specs.Table.{Table, Shaped, shaped, corner}
 use Rattle.table.proofs.Shape.{shaped-true}
 use Rattle.traversal_visits.specs.Walk.{walk}
 use Rattle.traversal_lists.proofs.Answers.{Refused, refusal}
-use Rattle.traversal_lists.specs.Outcome.{RingOutcome, outcome, refused, walked}
+use Rattle.traversal_lists.specs.Outcome.{RingOutcome, outcome, refusedRing, walked}
 use Rattle.traversal.specs.Ring.{usedCorners, usedVertices, begun, ringOf}
 use Rattle.traversal_lists.specs.Reached.{Fit}
 use Rattle.traversal_lists.specs.declared.Kind.{Kind}
 use Rattle.traversal_lists.specs.declared.Ring.{Ring}
 
 module _ (v : ℕ) (t : Table) (b : Bool) (is : b ≡ shaped t) where
-  pub start-1 : b ≡ false → (kind : Kind) (list : List ℕ) → ringOf kind v t list ≡ refused 1 list
+  pub start-1 : b ≡ false → (kind : Kind) (list : List ℕ) → ringOf kind v t list ≡ refusedRing 1 list
   unfolding ringOf
   start-1 off kind list = rw (← is, off)
 
   module _ (on : b ≡ true) (known : ℕ) (k : known ≡ usedVertices t) where
-    pub start-9 : known ≤ v → (kind : Kind) (list : List ℕ) → ringOf kind v t list ≡ refused 9 list
+    pub start-9 : known ≤ v → (kind : Kind) (list : List ℕ) → ringOf kind v t list ≡ refusedRing 9 list
     unfolding ringOf
     start-9 l kind list = rw (← is, on, ← k, le-ltb _ _ l)
 
     module _ (l : v < known) (m : ℕ) (mark : m ≡ markAt (t .vertexMark) v) where
-      pub start-10 : (m ≡ 0 → ⊥) → (kind : Kind) (list : List ℕ) → ringOf kind v t list ≡ refused 10 list
+      pub start-10 : (m ≡ 0 → ⊥) → (kind : Kind) (list : List ℕ) → ringOf kind v t list ≡ refusedRing 10 list
       unfolding ringOf
       start-10 g kind list = rw (← is, on, ← k, lt-ltb _ _ l, ← mark, ne-eqb _ _ g)
 

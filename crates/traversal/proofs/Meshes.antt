@@ -8,7 +8,7 @@ use Rattle.table.specs.Table.{shapedBy, live}
 use Rattle.table.specs.Meshes.{meshB, meshT}
 use Rattle.traversal_visits.specs.Walk.{faceLive, swing, side, leftOf, rightOf, afterLeft, afterRight, walk}
 use Rattle.traversal_lists.specs.Lists.{entry, twice}
-use Rattle.traversal_lists.specs.Outcome.{RingOutcome, refused}
+use Rattle.traversal_lists.specs.Outcome.{RingOutcome, refusedRing}
 use Rattle.traversal.specs.Ring.{ringOf}
 use Rattle.traversal_lists.specs.declared.Kind.the-variants.{Corners, Vertices, Faces, Edges, BoundingEdges}
 
@@ -179,10 +179,10 @@ unfolding ringOf shapedBy walk leftOf rightOf afterLeft afterRight side swing fa
 T-bounding-edges-3 = refl
 
 -- refused calls: a list without room, and a vertex that is not used
-B-short : ringOf Edges 0 meshB (9 ∷ 9 ∷ []) ≡ refused 16 (9 ∷ 9 ∷ [])
+B-short : ringOf Edges 0 meshB (9 ∷ 9 ∷ []) ≡ refusedRing 16 (9 ∷ 9 ∷ [])
 unfolding ringOf shapedBy walk leftOf rightOf afterLeft afterRight side swing faceLive live next previous entry twice
 B-short = refl
 
-B-none : ringOf Corners 4 meshB nines ≡ refused 9 nines
+B-none : ringOf Corners 4 meshB nines ≡ refusedRing 9 nines
 unfolding ringOf shapedBy walk leftOf rightOf afterLeft afterRight side swing faceLive live next previous entry twice nines
 B-none = refl

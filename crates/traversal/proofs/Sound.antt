@@ -22,7 +22,7 @@ use Rattle.fan.proofs.Tables.{table-linked, table-fan}
 use Rattle.traversal_visits.specs.Walk as Specs
 use Rattle.traversal_visits.specs.Walk.{faceLive, swing, Side, stop, more, side, leftOf, rightOf, tangled, closed, open′, afterLeft, afterRight, walk, visits}
 use Rattle.traversal_lists.specs.Lists.{entries}
-use Rattle.traversal_lists.specs.Outcome.{listed, refused, walked}
+use Rattle.traversal_lists.specs.Outcome.{listed, refusedRing, walked}
 use Rattle.traversal.specs.Ring.{usedCorners, usedVertices, walkOf, ringOf}
 use Rattle.traversal.specs.Promises.{VisitsBounded, NeverTangled, VisitsExact}
 use Rattle.traversal_visits.proofs.Counting.{visits-bound}
@@ -177,7 +177,7 @@ module _ (co cm : List ℕ) (n : ℕ) {vtx : ℕ → ℕ} (L : Linked (Lives cm 
 listed-not : (m : ℕ) (es list : List ℕ) → listed m es list .answer ≢ 15
 listed-not m es list e = go (leb (length es) (length list)) e
   where
-    go : (b : Bool) → cond b (record { answer = 0; visited = m; written = length es; list = es ++ drop (length es) list }) (refused 16 list) .answer ≢ 15
+    go : (b : Bool) → cond b (record { answer = 0; visited = m; written = length es; list = es ++ drop (length es) list }) (refusedRing 16 list) .answer ≢ 15
     go true z = absurd (omega arith)
     go false z = absurd (omega arith)
 
@@ -250,7 +250,7 @@ visits-exact t S W v h =
 listed-bound : (m n : ℕ) (es list : List ℕ) → m ≤ n → listed m es list .visited ≤ n
 listed-bound m n es list h = go (leb (length es) (length list))
   where
-    go : (b : Bool) → cond b (record { answer = 0; visited = m; written = length es; list = es ++ drop (length es) list }) (refused 16 list) .visited ≤ n
+    go : (b : Bool) → cond b (record { answer = 0; visited = m; written = length es; list = es ++ drop (length es) list }) (refusedRing 16 list) .visited ≤ n
     go true = h
     go false = omega arith
 
@@ -264,7 +264,7 @@ unfolding ringOf
 visited-bound kind v t list = go (shaped t) (ltb v (usedVertices t)) (eqb (markAt (t .vertexMark) v) 0)
   where
     go : (a b c : Bool)
-        → cond a (cond b (cond c (walked kind (t .cornerVertex) (walkOf t v) list) (refused 10 list)) (refused 9 list)) (refused 1 list) .visited ≤ usedCorners t
+        → cond a (cond b (cond c (walked kind (t .cornerVertex) (walkOf t v) list) (refusedRing 10 list)) (refusedRing 9 list)) (refusedRing 1 list) .visited ≤ usedCorners t
     go true true true =
         walked-bound kind (t .cornerVertex) (walkOf t v) list (usedCorners t)
         (visits-bound (t .cornerOpposite) (t .cornerMark) (usedCorners t) (corner t v))

@@ -6,7 +6,7 @@ use lib.Dec.{ltb, eqb}
 use Rattle.table.specs.Slots.{markAt}
 use Rattle.table.specs.Table.{Table, cornerRoom, vertexRoom, shaped, corner}
 use Rattle.traversal_visits.specs.Walk.{Walk, walk}
-use Rattle.traversal_lists.specs.Outcome.{RingOutcome, refused, walked}
+use Rattle.traversal_lists.specs.Outcome.{RingOutcome, refusedRing, walked}
 use Rattle.traversal_lists.specs.declared.Kind.{Kind}
 
 -- "A slot is used if its number is below both the count and the room."
@@ -24,10 +24,10 @@ unfoldable pub ringOf : Kind → ℕ → Table → List ℕ → RingOutcome
 ringOf kind v t list =
     cond (shaped t)
     (cond (ltb v (usedVertices t))
-    (cond (eqb (markAt (t .vertexMark) v) 0) (walked kind (t .cornerVertex) (walkOf t v) list) (refused 10 list))
-    (refused 9 list))
-    (refused 1 list)
+    (cond (eqb (markAt (t .vertexMark) v) 0) (walked kind (t .cornerVertex) (walkOf t v) list) (refusedRing 10 list))
+    (refusedRing 9 list))
+    (refusedRing 1 list)
 
 -- the same by what the code has found before the walk: an answer, or 0 with the used corners and the first
 abbrev pub begun : Kind → (cv co cm : List ℕ) → ℕ → (used c : ℕ) → List ℕ → RingOutcome
-begun kind cv co cm answer used c list = cond (eqb answer 0) (walked kind cv (walk co cm used c) list) (refused answer list)
+begun kind cv co cm answer used c list = cond (eqb answer 0) (walked kind cv (walk co cm used c) list) (refusedRing answer list)

@@ -14,7 +14,7 @@ use lib.Dec.{leb}
 use Rattle.corner.specs.Corner.{next, previous}
 use Rattle.traversal_visits.specs.Walk.{faceLive, tangled, closed, open′, leftOf, rightOf, walk, visits}
 use Rattle.traversal_lists.specs.Lists.{entry, twice, entries}
-use Rattle.traversal_lists.specs.Outcome.{outcome, refused, listed, walked, needed, tooShort}
+use Rattle.traversal_lists.specs.Outcome.{outcome, refusedRing, listed, walked, needed, tooShort}
 use Rattle.traversal_visits.specs.Walk.{counted}
 use Rattle.traversal_lists.specs.Reached.{reached, Inside, Fit}
 use Rattle.traversal_visits.proofs.Counting.{IsClosed, IsOpen, was-tangled, was-closed, was-open}
@@ -81,7 +81,7 @@ outcome-is r l l′ a n m p q s e = λ i. record { answer = p i; visited = q i; 
 abbrev pub Refused : Ring → ℕ → Type 0
 Refused r a = (r .answer ≡ a) × (r .visited ≡ 0) × (r .written ≡ 0)
 
-pub refusal : (r : Ring) (l : List ℕ) (a : ℕ) → Refused r a → outcome r l ≡ refused a l
+pub refusal : (r : Ring) (l : List ℕ) (a : ℕ) → Refused r a → outcome r l ≡ refusedRing a l
 refusal r l a h = outcome-is r l l a 0 0 (h .0) (h .1) (h .2) refl
 
 module _ (r : Ring) (n : ℕ) (es list : List ℕ) where

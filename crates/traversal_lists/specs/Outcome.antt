@@ -22,18 +22,18 @@ abbrev pub outcome : Ring → List ℕ → RingOutcome
 outcome r list = record { answer = r .answer; visited = r .visited; written = r .written; list = list }
 
 -- "refused: 0 and 0"
-abbrev pub refused : ℕ → List ℕ → RingOutcome
-refused a list = record { answer = a; visited = 0; written = 0; list = list }
+abbrev pub refusedRing : ℕ → List ℕ → RingOutcome
+refusedRing a list = record { answer = a; visited = 0; written = 0; list = list }
 
 -- "List entries after those stay." 16: "list room too small"
 abbrev pub listed : ℕ → List ℕ → List ℕ → RingOutcome
 listed n es list =
     cond (leb (length es) (length list))
     (record { answer = 0; visited = n; written = length es; list = es ++ drop (length es) list })
-    (refused 16 list)
+    (refusedRing 16 list)
 
 abbrev pub walked : Kind → List ℕ → Walk → List ℕ → RingOutcome
-walked kind cv tangled list = refused 15 list
+walked kind cv tangled list = refusedRing 15 list
 walked kind cv (closed c l) list = listed (length (visits (closed c l))) (entries kind cv (closed c l)) list
 walked kind cv (open′ c l r) list = listed (length (visits (open′ c l r))) (entries kind cv (open′ c l r)) list
 

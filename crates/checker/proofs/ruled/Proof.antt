@@ -17,13 +17,13 @@ Inv-loop cv co cm vc vm vp nv nc k₀ k = Passed (clean (table cv co cm vc vm vp
 abbrev μ-loop : tie.MeasureT-loop
 μ-loop cv co cm vc vm vp nv nc k₀ k = tests - k
 
-settled-requires : tie.Need-settled-requires Inv-loop μ-loop
-settled-requires c κs = search needs
+passing-requires : tie.Need-passing-requires Inv-loop μ-loop
+passing-requires c κs = search needs
 
 loop-holds : tie.Need-loop-holds Inv-loop μ-loop
 loop-holds c =
     let z = c .before .before .before .before .before .before .before .args in
-    let s = c .settled .ensures (now (z .vc)) (now (z .vp)) in
+    let s = c .passing .ensures (now (z .vc)) (now (z .vp)) in
     let t = table (now (z .cv)) (now (z .co)) (now (z .cm)) (now (z .vc)) (now (z .vm)) (now (z .vp)) (z .nv) (z .nc) in
     record { within = s .0; passes = λ k l. all-clean t k (s .1 k l) }
 
@@ -69,7 +69,7 @@ ruled-spec =
     (tie.spec
     Inv-loop
     μ-loop
-    settled-requires
+    passing-requires
     loop-holds
     test-at-requires
     first-of-requires

@@ -1,6 +1,6 @@
 -- `checker_rules::meets` meets its contract: the walks from where the loop stands, with the fuel that is left, end as the walks from c do.
 use Rattle.checker_rules.proofs.Turns.{near-out, turn-left, turn-right, turn-more}
-use Rattle.checker_rules.specs.Near.{near, swing}
+use Rattle.checker_rules.specs.Near.{near, beside}
 use denote.Ref.{now}
 use mathlib.Core.Path.{_≡_, refl, sym, _∙_}
 use mathlib.Core.Bool.{true, false}
@@ -11,8 +11,8 @@ use Rattle.checker_rules.proofs.meets.Tie as tie
 
 abbrev Inv-loop : tie.InvT-loop
 Inv-loop co s c room a₀ b₀ rest₀ a b rest =
-    near co (s .0) (c .0) room (swing true co (c .0)) (swing false co (c .0))
-    ≡ near co (s .0) (c .0) rest (swing true co (a .0)) (swing false co (b .0))
+    near co (s .0) (c .0) room (beside true co (c .0)) (beside false co (c .0))
+    ≡ near co (s .0) (c .0) rest (beside true co (a .0)) (beside false co (b .0))
 
 abbrev μ-loop : tie.MeasureT-loop
 μ-loop co s c room a₀ b₀ rest₀ a b rest = rest
@@ -20,8 +20,8 @@ abbrev μ-loop : tie.MeasureT-loop
 loop-holds : tie.Need-loop-holds Inv-loop μ-loop
 loop-holds c = refl
 
-swing-requires : tie.Need-swing-requires Inv-loop μ-loop
-swing-requires c κs = search needs
+beside-requires : tie.Need-beside-requires Inv-loop μ-loop
+beside-requires c κs = search needs
 
 hits-requires : tie.Need-hits-requires Inv-loop μ-loop
 hits-requires c κs = search needs
@@ -31,11 +31,11 @@ returns c =
     let s = c .before .before .before .before in
     let z = s .before .before .args in
     turn-left (now (z .co)) (z .s .0) (z .c .0) (s .loop .rest) (s .loop .a .0) (s .loop .b .0) (omega arith)
-    _ (c .before .before .swing .ensures) _ (c .before .hits .ensures) (c .if1 .taken)
+    _ (c .before .before .beside .ensures) _ (c .before .hits .ensures) (c .if1 .taken)
     ∙ sym (s .loop .inv)
 
-swing-requires-2 : tie.Need-swing-requires-2 Inv-loop μ-loop
-swing-requires-2 c κs = search needs
+beside-requires-2 : tie.Need-beside-requires-2 Inv-loop μ-loop
+beside-requires-2 c κs = search needs
 
 hits-requires-2 : tie.Need-hits-requires-2 Inv-loop μ-loop
 hits-requires-2 c κs = search needs
@@ -45,8 +45,8 @@ returns-2 c =
     let s = c .before .before .before .before .before .before .before in
     let z = s .before .before .args in
     turn-right (now (z .co)) (z .s .0) (z .c .0) (s .loop .rest) (s .loop .a .0) (s .loop .b .0) (omega arith)
-    _ (c .before .before .before .before .before .swing .ensures) _ (c .before .before .before .before .hits .ensures)
-    (c .before .before .before .if1 .left) _ (c .before .before .swing2 .ensures) _ (c .before .hits2 .ensures) (c .if2 .taken)
+    _ (c .before .before .before .before .before .beside .ensures) _ (c .before .before .before .before .hits .ensures)
+    (c .before .before .before .if1 .left) _ (c .before .before .beside2 .ensures) _ (c .before .hits2 .ensures) (c .if2 .taken)
     ∙ sym (s .loop .inv)
 
 sub-rest : tie.Need-sub-rest Inv-loop μ-loop
@@ -61,8 +61,8 @@ loop-again c =
     let z = s .before .before .args in
     s .loop .inv
     ∙ turn-more (now (z .co)) (z .s .0) (z .c .0) (s .loop .rest) (s .loop .a .0) (s .loop .b .0) (omega arith)
-    _ (c .before .before .before .before .before .swing .ensures) _ (c .before .before .before .before .hits .ensures)
-    (c .before .before .before .if1 .left) _ (c .before .before .swing2 .ensures) _ (c .before .hits2 .ensures) (c .if2 .left)
+    _ (c .before .before .before .before .before .beside .ensures) _ (c .before .before .before .before .hits .ensures)
+    (c .before .before .before .if1 .left) _ (c .before .before .beside2 .ensures) _ (c .before .hits2 .ensures) (c .if2 .left)
 
 returns-3 : tie.Need-returns-3 Inv-loop μ-loop
 returns-3 c = near-out _ _ _ (c .before .loop .rest) _ _ (omega arith) ∙ sym (c .before .loop .inv)
@@ -74,10 +74,10 @@ meets-spec =
     Inv-loop
     μ-loop
     loop-holds
-    swing-requires
+    beside-requires
     hits-requires
     returns
-    swing-requires-2
+    beside-requires-2
     hits-requires-2
     returns-2
     sub-rest

@@ -1,7 +1,7 @@
 use Rattle.edge_collapse.proofs.Loops.{left-border, left-closed, left-more, begins, Counting, counting-start, counting-stop, counting-more, counted-home, neighbour}
 use Rattle.edge_collapse.specs.EdgeCollapse.{neighbours, timesIn}
 use Rattle.ring.proofs.Steps.{stands, side-out}
-use Rattle.ring.specs.Ring.{side}
+use Rattle.ring.specs.Ring.{sweep}
 use Rattle.table.specs.Slots.{vertexAt}
 use Rattle.corner.proofs.Turns.{previous-next}
 use Rattle.corner.specs.Corner.{next, previous}
@@ -15,7 +15,7 @@ use Rattle.edge_collapse.proofs.common_side.Statement.{statement}
 use Rattle.edge_collapse.proofs.common_side.Tie as tie
 
 abbrev Inv-loop : tie.InvT-loop
-Inv-loop cv co n k first via₀ rest₀ times₀ via rest times = Counting (λ x. ltb 0 (timesIn (neighbours cv co n k) x)) (λ d. vertexAt cv (previous d)) (side true co (next first) n (next first)) (side true co (next first) rest (stands true via)) times rest n
+Inv-loop cv co n k first via₀ rest₀ times₀ via rest times = Counting (λ x. ltb 0 (timesIn (neighbours cv co n k) x)) (λ d. vertexAt cv (previous d)) (sweep true co (next first) n (next first)) (sweep true co (next first) rest (stands true via)) times rest n
 
 abbrev μ-loop : tie.MeasureT-loop
 μ-loop cv co n k first via₀ rest₀ times₀ via rest times = rest

@@ -1,6 +1,6 @@
 use Rattle.ring.proofs.Labels.{Labelling, labelling-start, labelling-stop, labelling-more}
 use Rattle.ring.proofs.Steps.{stands, stands-first, side-border, side-closed, side-more, side-out}
-use Rattle.ring.specs.Ring.{side}
+use Rattle.ring.specs.Ring.{sweep}
 use borrow.Author.Needs.{needs}
 use native.Mathlib.Omega.{arith}
 use mathlib.Core.Path.{ap}
@@ -9,7 +9,7 @@ use Rattle.ring.proofs.label_side.Statement.{statement}
 use Rattle.ring.proofs.label_side.Tie as tie
 
 abbrev Inv-loop : tie.InvT-loop
-Inv-loop left co room l₀ v first via₀ rest₀ l via rest = Labelling (side left co first room first) (side left co first rest (stands left via)) v l₀ l
+Inv-loop left co room l₀ v first via₀ rest₀ l via rest = Labelling (sweep left co first room first) (sweep left co first rest (stands left via)) v l₀ l
 
 abbrev μ-loop : tie.MeasureT-loop
 μ-loop left co room l₀ v first via₀ rest₀ l via rest = rest
@@ -21,7 +21,7 @@ turn-index-requires : tie.Need-turn-index-requires Inv-loop μ-loop
 turn-index-requires c κs = search needs
 
 loop-holds : tie.Need-loop-holds Inv-loop μ-loop
-loop-holds c = let a = c .before .before .before .before .args in labelling-start _ _ _ _ (ap (side (a .left) (now (a .co)) (a .c0 .0) (a .room)) (stands-first (a .left) (a .c0 .0) (c .turn-index .result) (c .turn-index .ensures)))
+loop-holds c = let a = c .before .before .before .before .args in labelling-start _ _ _ _ (ap (sweep (a .left) (now (a .co)) (a .c0 .0) (a .room)) (stands-first (a .left) (a .c0 .0) (c .turn-index .result) (c .turn-index .ensures)))
 
 at-requires : tie.Need-at-requires Inv-loop μ-loop
 at-requires c κs = search needs

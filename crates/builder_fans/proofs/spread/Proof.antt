@@ -1,15 +1,15 @@
 use Prim.Native.Nat.{_-_}
 use native.Mathlib.Omega.{arith}
 use borrow.Author.Needs.{needs}
-use Rattle.builder_fans.specs.Chains.{shared, vertexOf, settled}
+use Rattle.builder_fans.specs.Chains.{shared, vertexOf, spreadOver}
 use Rattle.ring.specs.Ring.{ring}
-use Rattle.builder_fans.proofs.Passes.{settled-zero, settled-suc, vertex-grows}
+use Rattle.builder_fans.proofs.Passes.{spreadOver-zero, spreadOver-suc, vertex-grows}
 use Rattle.builder_fans.proofs.Runs.{Running, running-start, running-full, running-on, running-end}
-use Rattle.builder_fans.proofs.settle.Statement.{statement}
-use Rattle.builder_fans.proofs.settle.Tie as tie
+use Rattle.builder_fans.proofs.spread.Statement.{statement}
+use Rattle.builder_fans.proofs.spread.Tie as tie
 
 abbrev Inv-loop : tie.InvT-loop
-Inv-loop co cm vm cv₀ vc₀ vp₀ n room count v₀ u₀ cv vc vp v u = Running (vertexOf (ring co n) cm vm n) (settled (ring co n) cm vm n) (settled-zero (ring co n) cm vm n) (settled-suc (ring co n) cm vm n) (vertex-grows (ring co n) cm vm n) count room (settled (ring co n) cm vm n count 0 (shared cv₀ vc₀ vp₀ count)) cv₀ vc₀ cv vc vp₀ vp v u
+Inv-loop co cm vm cv₀ vc₀ vp₀ n room count v₀ u₀ cv vc vp v u = Running (vertexOf (ring co n) cm vm n) (spreadOver (ring co n) cm vm n) (spreadOver-zero (ring co n) cm vm n) (spreadOver-suc (ring co n) cm vm n) (vertex-grows (ring co n) cm vm n) count room (spreadOver (ring co n) cm vm n count 0 (shared cv₀ vc₀ vp₀ count)) cv₀ vc₀ cv vc vp₀ vp v u
 
 abbrev μ-loop : tie.MeasureT-loop
 μ-loop co cm vm cv₀ vc₀ vp₀ n room count v₀ u₀ cv vc vp v u = count - v
@@ -53,8 +53,8 @@ same-length-6 c = search needs
 returns-2 : tie.Need-returns-2 Inv-loop μ-loop
 returns-2 c = running-end _ _ _ _ _ _ _ _ _ _ _ _ _ _ _ _ (c .before .loop .inv) (c .loop-test .left)
 
-pub settle-spec : {M : Type 1} → statement M
-settle-spec =
+pub spread-spec : {M : Type 1} → statement M
+spread-spec =
     tie.close
     (tie.spec
     Inv-loop

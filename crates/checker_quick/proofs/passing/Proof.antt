@@ -1,10 +1,10 @@
--- `checker_quick::settled` meets its contract: the first seven tests pass at every slot, or nothing is said.
+-- `checker_quick::passing` meets its contract: the first seven tests pass at every slot, or nothing is said.
 use borrow.Author.Needs.{needs}
 use native.Mathlib.Omega.{arith}
 use mathlib.Core.Path.{sym, _∙_}
 use Rattle.checker_quick.proofs.Quick.{all-there, settles}
-use Rattle.checker_quick.proofs.settled.Statement.{statement}
-use Rattle.checker_quick.proofs.settled.Tie as tie
+use Rattle.checker_quick.proofs.passing.Statement.{statement}
+use Rattle.checker_quick.proofs.passing.Tie as tie
 
 both-requires : tie.Need-both-requires
 both-requires c κs = search needs
@@ -38,8 +38,8 @@ returns-4 c = λ vc vp. (omega arith, λ k l. absurd (omega arith))
 returns-5 : tie.Need-returns-5
 returns-5 c = λ vc vp. (omega arith, λ k l. absurd (omega arith))
 
-pub settled-spec : {M : Type 1} → statement M
-settled-spec =
+pub passing-spec : {M : Type 1} → statement M
+passing-spec =
     tie.close
     (tie.spec
     both-requires
