@@ -1,4 +1,6 @@
 // corner.rs: the number of a corner, and of a face. An absent corner is a number too, so that a slot holds nothing but a u32.
+#![tactic(auto)]
+
 ghost use Rattle.std.specs.Prelude.{◌≡◌, ◌+◌, ◌*◌, ◌<◌};
 ghost use Rattle.corner.specs.Corner.{absent, next as next_of, previous as previous_of, face as face_of, first_corner, turn as turn_of};
 

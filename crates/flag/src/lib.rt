@@ -1,4 +1,6 @@
 // The words that put tests together.
+#![tactic(auto)]
+
 ghost use Rattle.std.specs.Prelude.{◌≡◌, cond, ◌&&◌, ◌||◌, ◌≤◌};
 ghost use Rattle.flag.specs.Words.{implies};
 

@@ -1,5 +1,7 @@
 // vertex.rs: the number of a vertex, and its point. Every 32-bit pattern is a float here, and every float has a pattern: the logic
 // has one NaN, whose pattern is 0x7fc0_0000.
+#![tactic(auto)]
+
 ghost use Rattle.std.specs.Prelude.{◌≡◌};
 ghost use Rattle.std.specs.Float.{binary32};
 ghost use Rattle.std.specs.Float.Ieee.{to_bits, of_bits};
