@@ -1,4 +1,6 @@
 // builder.rs: a table from points and faces, in lent memory.
+#![tactic(auto)]
+
 ghost use Rattle.std.specs.Prelude.{◌≡◌, List, Float, length};
 ghost use Rattle.table.specs.Lent.{before, after};
 ghost use Rattle.builder_build.specs.Build.{built, go, build as build_of, finish as finish_of, faces as faces_of, start, laid};
@@ -9,7 +11,7 @@ use builder_edges::points_refusal;
 use table::Counts;
 
 // The answer, how many faces were skipped, and how much of the table is used.
-#[derive(Drop)]
+#[derive(Clone, Copy)]
 pub struct Built {
     pub answer: u32,
     pub skipped: usize,

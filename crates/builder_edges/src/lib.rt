@@ -3,6 +3,8 @@
 //
 // For each face there is one pass over the kept faces, which looks for its six directed edges at once: its own three, that must not be
 // held yet, and the same three the other way round, whose corners become opposites.
+#![tactic(auto)]
+
 ghost use Rattle.std.specs.Prelude.{◌≡◌, cond, ◌+◌, ◌<◌, ◌%◌};
 ghost use Rattle.builder_build.specs.Build.{known as known_of, repeated as repeated_of};
 ghost use Rattle.builder_edges.specs.Search.{noted, look_of, face_look, touched, among_of, sought, taken_by};
@@ -10,7 +12,7 @@ ghost use Rattle.builder_edges.specs.Search.{noted, look_of, face_look, touched,
 // ---- the search
 
 // The corners whose edges run from b to c, from c to a, and so on, or ABSENT.
-#[derive(Drop)]
+#[derive(Clone, Copy)]
 pub struct Found {
     pub bc: u32,
     pub ca: u32,

@@ -1,4 +1,6 @@
 // builder.rs, first half: points and faces.
+#![tactic(auto)]
+
 ghost use Rattle.std.specs.Prelude.{◌≡◌, ◌+◌, ◌<◌, ◌≤◌, ◌%◌, length, set};
 ghost use Rattle.std.proofs.lemmas.List.Edits.{sets};
 ghost use Rattle.table.specs.Slots.{with_pair};
@@ -70,7 +72,7 @@ fn set_corners(vc: &mut [u32], n: u32, a: u32, b: u32, c: u32)
     make_last(vc, c, n + 2);
 }
 
-#[derive(Drop)]
+#[derive(Clone, Copy)]
 pub struct Added {
     pub answer: u32,
     pub corners: u32,

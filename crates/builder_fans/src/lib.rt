@@ -4,6 +4,8 @@
 // corner is marked 1. Then the corners that are left are threaded, from the last to the first: a vertex's mark names its least corner
 // that is left, and that corner's mark the next one (as number + 2; 0 is none). So no pass goes over all corners for a vertex: the work
 // is that of the fans, of one pass over the corners and of one over the vertices.
+#![tactic(auto)]
+
 ghost use Rattle.std.specs.Prelude.{◌≡◌, ◌+◌, ◌<◌, ◌≤◌};
 ghost use Rattle.ring.specs.Ring.{ring};
 ghost use Rattle.builder_build.specs.Build.{give as give_of, isolated};

@@ -4,8 +4,10 @@
 // Before that a quick pass over the faces (`quick`) settles R1 to R4 at once where nothing is broken.
 //
 // The cost is of order n, but for R5's fans (`near`), which are of order n log n.
+#![tactic(auto)]
+
 ghost use Rattle.std.specs.Prelude.{◌≡◌};
-ghost use Rattle.table.specs.Lent.{counts_of, before};
+ghost use Rattle.table.specs.Lent.{counts_of, seen};
 ghost use Rattle.checker_rules.specs.Tests.{holds as holds_of};
 ghost use Rattle.checker.specs.First.{first_bad};
 ghost use Rattle.checker.specs.Order.{first_of, ruled as ruled_of, verdict_of};
@@ -16,7 +18,7 @@ use checker_rules::holds;
 use table::Counts;
 
 // Answer 0, 1 or 7. Rule and slot are 0 but for 7.
-#[derive(Drop)]
+#[derive(Clone, Copy)]
 pub struct Verdict {
     pub answer: u32,
     pub rule: u32,
@@ -37,7 +39,7 @@ fn first_bad(
     nc: u32,
     n: u32,
 ) -> u32
-    ensures { result ≡ first_bad (holds_of test (before cv co cm vc vm vp (counts_of nv nc))) n }
+    ensures { result ≡ first_bad (holds_of test (seen cv co cm vc vm vp (counts_of nv nc))) n }
 {
     let mut i = 0;
     while i < n {
@@ -61,7 +63,7 @@ fn first_of(
     nv: u32,
     nc: u32,
 ) -> u32
-    ensures { result ≡ first_of test (before cv co cm vc vm vp (counts_of nv nc)) }
+    ensures { result ≡ first_of test (seen cv co cm vc vm vp (counts_of nv nc)) }
 {
     first_bad(test, cv, co, cm, vc, vm, vp, nv, nc, span(test, nv, nc))
 }
@@ -76,7 +78,7 @@ fn ruled(
     nv: u32,
     nc: u32,
 ) -> Verdict
-    ensures { result ≡ ruled_of (before cv co cm vc vm vp (counts_of nv nc)) }
+    ensures { result ≡ ruled_of (seen cv co cm vc vm vp (counts_of nv nc)) }
 {
     let mut k = passing(cv, co, cm, vm, nv, nc);
     while k < 10 {
@@ -107,7 +109,7 @@ pub fn check(
     vp: &[f32],
     counts: Counts,
 ) -> Verdict
-    ensures { result ≡ verdict_of (before cv co cm vc vm vp counts) }
+    ensures { result ≡ verdict_of (seen cv co cm vc vm vp counts) }
 {
     if table::is_shaped(cv.len(), co.len(), cm.len(), vc.len(), vm.len(), vp.len()) {
         return ruled(cv, co, cm, vc, vm, vp, counts.vertices, counts.corners);

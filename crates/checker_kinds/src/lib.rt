@@ -1,10 +1,12 @@
 // The ten tests by name: the order in which they are made, the rule that each belongs to, the slots that it goes over and the slot that it
 // names.
+#![tactic(auto)]
+
 ghost use Rattle.std.specs.Prelude.{◌≡◌};
 ghost use Rattle.checker_kinds.specs.Kinds.{test_at, rule_of, span as span_of, slot_of};
 
 // What is tested, in the order of the tests.
-#[derive(Drop)]
+#[derive(Clone, Copy)]
 pub enum Test {
     Counts,
     CornerMark,

@@ -2,6 +2,8 @@
 //
 // It only ever says that all is well. Where it does not, the tests are made one by one, and name the lowest rule and slot. It begins by seeing
 // that the corners in use are there, so that no read of theirs has a test of its own.
+#![tactic(auto)]
+
 ghost use Rattle.std.specs.Prelude.{◌≡◌, ◌&&◌, true, List, ℕ, ◌+◌, ◌%◌, ◌<◌, ◌≤◌, eqb, Float, length};
 ghost use Rattle.corner.specs.Corner.{next, previous};
 ghost use Rattle.table.specs.Slots.{vertex_at, opposite_at, mark_at};

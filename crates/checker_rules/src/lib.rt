@@ -1,6 +1,8 @@
 // R1 to R6 as tests of one slot, on any table. They only read, and need no memory. The cost of a test is bounded, but for R5's fans (`near`).
+#![tactic(auto)]
+
 ghost use Rattle.std.specs.Prelude.{true, false, ◌≡◌};
-ghost use Rattle.table.specs.Lent.{counts_of, before};
+ghost use Rattle.table.specs.Lent.{counts_of, seen};
 ghost use Rattle.checker_rules.specs.Near.{across as across_of, beside as beside_of, hits as hits_of, near as near_of};
 ghost use Rattle.checker_rules.specs.Tests.{counts_test, mark_test, face_test, vertex_test, differ_test, back_test, mates_test, opposite_test, corner_test, fan_test, point_test, holds as holds_of};
 
@@ -193,7 +195,7 @@ pub fn holds(
     nc: u32,
     i: u32,
 ) -> bool
-    ensures { result ≡ holds_of test (before cv co cm vc vm vp (counts_of nv nc)) i }
+    ensures { result ≡ holds_of test (seen cv co cm vc vm vp (counts_of nv nc)) i }
 {
     match test {
         Test::Counts => counts_test(cm.len(), vm.len(), nv, nc),

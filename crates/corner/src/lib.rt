@@ -4,10 +4,10 @@
 ghost use Rattle.std.specs.Prelude.{◌≡◌, ◌+◌, ◌*◌, ◌<◌};
 ghost use Rattle.corner.specs.Corner.{absent, next as next_of, previous as previous_of, face as face_of, first_corner, turn as turn_of};
 
-#[derive(Drop)]
+#[derive(Clone, Copy)]
 pub struct Corner(pub u32);
 
-#[derive(Drop)]
+#[derive(Clone, Copy)]
 pub struct Face(pub u32);
 
 impl Corner {

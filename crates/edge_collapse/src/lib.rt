@@ -1,6 +1,8 @@
 // edge_collapse.rs: the two collapse tests, by walks along rings. A neighbour of the vertex at corner d stands at the corner before d, which
 // is the opposite that the walk has just crossed to. Up to 16 neighbours are kept at hand, so that each ring is walked once; for more the
 // rings are walked anew for each neighbour, with no memory, at the product of the two.
+#![tactic(auto)]
+
 ghost use Rattle.std.specs.Prelude.{◌≡◌, true, List, ℕ, ◌≤◌, ◌<◌, eqb, ltb, Float, length, take};
 ghost use Rattle.corner.specs.Corner.{absent, previous};
 ghost use Rattle.table.specs.Slots.{vertex_at};
@@ -232,7 +234,7 @@ fn judge_rings(cv: &[u32], co: &[u32], n: u32, k: Corner, l: Corner, lost: u32) 
 }
 
 // What both tests say of an edge. `bad` tells only where `boundary` is false.
-#[derive(Drop)]
+#[derive(Clone, Copy)]
 pub struct Hindrance {
     pub boundary: bool,
     pub bad: bool,

@@ -1,5 +1,7 @@
 // edit.rs, collapse_edge: reads a plan first, and then writes one part after the other. It tests nothing: it is called where the answer of the
 // command is 0. The drawing stands in specs/.
+#![tactic(auto)]
+
 ghost use Rattle.std.specs.Prelude.{◌≡◌, ◌<◌};
 ghost use Rattle.corner.specs.Corner.{absent};
 ghost use Rattle.table.specs.Slots.{opposite_at};

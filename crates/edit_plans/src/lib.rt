@@ -1,5 +1,7 @@
 // edit.rs: what the four edits begin with. Each reads a plan first, all of it before its first write, and the splits put new faces on the end.
 // The drawings stand in specs/.
+#![tactic(auto)]
+
 ghost use Rattle.std.specs.Prelude.{◌≡◌, ◌+◌, ◌<◌};
 ghost use Rattle.corner.specs.Corner.{absent};
 ghost use Rattle.table.specs.Slots.{opposite_at};
@@ -10,7 +12,7 @@ use table::put_three;
 use vertex::Vertex;
 
 // The corners of a face, their vertices, and the opposites of the first two.
-#[derive(Drop)]
+#[derive(Clone, Copy)]
 pub struct Triangle {
     pub c0: Corner,
     pub c1: Corner,
@@ -23,7 +25,7 @@ pub struct Triangle {
 }
 
 // The corners of the two faces at an edge, their vertices, and the opposites across the four outer edges.
-#[derive(Drop)]
+#[derive(Clone, Copy)]
 pub struct Around {
     pub c0: Corner,
     pub c1: Corner,

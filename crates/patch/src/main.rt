@@ -1,4 +1,6 @@
 // The main job: one patch file, named on the command line, is built, checked and edited by its script, and what came of it is printed.
+#![tactic(auto)]
+
 ghost use Rattle.std.specs.Prelude.{◌≡◌, ◌≤◌};
 
 use patch_file::{face_words, fault, front, point_words, script_words};

@@ -1,6 +1,8 @@
 // The patch file, as words: what is wrong with it, and its parts.
 //
 // docs/FORMATS.md has its form: four words (the magic one; how many points, faces and commands), then the words of each.
+#![tactic(auto)]
+
 ghost use Rattle.std.specs.Prelude.{◌≡◌, ◌<◌, take};
 ghost use Rattle.patch_file.specs.File.{limited, size as size_of, ended, fault_of, point_words, face_words, script_words};
 

@@ -1,4 +1,6 @@
 // What is said of a patch: a line for what was built, for each refused command and for what came of the script; and the edits, said so.
+#![tactic(auto)]
+
 ghost use Rattle.table.specs.Lent.{before, after};
 ghost use Rattle.script.specs.Run.{RunOutcome};
 

@@ -1,4 +1,6 @@
 // The ring of a corner, walked by opposites alone, with a value stored at each corner of it.
+#![tactic(auto)]
+
 ghost use Rattle.std.specs.Prelude.{◌≡◌};
 ghost use Rattle.table.specs.Slots.{relabel};
 ghost use Rattle.ring.specs.Ring.{sweep, ring as ring_of, Labelled};

@@ -1,4 +1,6 @@
 // A script of commands on a table.
+#![tactic(auto)]
+
 ghost use Rattle.std.specs.Prelude.{◌*◌, ◌≤◌, length};
 ghost use Rattle.table.specs.Lent.{lent, before, after};
 ghost use Rattle.table.specs.Rules.{Good};
@@ -48,7 +50,7 @@ pub fn run_commands(
 }
 
 // What a run answers: 1, 8, 7 with rule and slot, or 0; and the counts after it.
-#[derive(Drop)]
+#[derive(Clone, Copy)]
 pub struct Ran {
     pub answer: u32,
     pub rule: u32,

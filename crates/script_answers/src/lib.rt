@@ -1,4 +1,6 @@
 // What a command answers: each check in its place. `effects` does the command where its answer is 0.
+#![tactic(auto)]
+
 ghost use Rattle.std.specs.Prelude.{◌≡◌, List, ℕ, ◌<◌, Float, length};
 ghost use Rattle.corner.specs.Corner.{absent};
 ghost use Rattle.table.specs.Table.{table};

@@ -1,4 +1,6 @@
 // One command of a script: decoded from five words; and the checks that need no table. `answers` has the rest of them, each in its place.
+#![tactic(auto)]
+
 ghost use Rattle.std.specs.Prelude.{◌≡◌, ◌+◌, ◌*◌, ◌<◌, length};
 ghost use Rattle.script_command.specs.Decode.{command_at};
 ghost use Rattle.script_command.specs.Checks.{first as first_of, when as when_of, targeted as targeted_of, room_for, corners_for, fits as fits_of};
@@ -7,7 +9,7 @@ use corner::{Corner, Face};
 use vertex::Point;
 
 // An edit is one of four things, three of them carrying a point. Any other kind is unknown.
-#[derive(Drop)]
+#[derive(Clone, Copy)]
 pub enum Edit {
     Collapse(Corner, Point),
     Flip(Corner),

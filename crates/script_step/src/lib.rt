@@ -1,4 +1,6 @@
 // One command on a table: answered first, and done where the answer is 0.
+#![tactic(auto)]
+
 ghost use Rattle.std.specs.Prelude.{List, ℕ, Float};
 ghost use Rattle.table.specs.Table.{table};
 ghost use Rattle.table.specs.Lent.{lent, before, after};
@@ -12,7 +14,7 @@ use table::Counts;
 use vertex::Point;
 
 // The answer of a command, and the counts after it.
-#[derive(Drop)]
+#[derive(Clone, Copy)]
 pub struct Done {
     pub answer: u32,
     pub counts: Counts,

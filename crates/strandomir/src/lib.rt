@@ -3,8 +3,10 @@
 //
 // The parts of a table: the corners' vertices, opposites and marks (cv, co, cm), the vertices' corners, marks and points (vc, vm, vp). The
 // counts, a corner and a vertex go as numbers: C knows no `Counts`, `Corner` or `Vertex`.
+#![tactic(auto)]
+
 ghost use Rattle.std.specs.Prelude.{◌≡◌};
-ghost use Rattle.table.specs.Lent.{counts_of, before, after};
+ghost use Rattle.table.specs.Lent.{counts_of, before, after, seen};
 ghost use Rattle.builder_build.specs.Build.{built, build as build_of};
 ghost use Rattle.checker.specs.Order.{verdict_of};
 ghost use Rattle.script.specs.Run.{RunOutcome};
@@ -19,7 +21,7 @@ use vertex::Vertex;
 
 // What a build answers: the counts are those of the table it leaves.
 #[repr(C)]
-#[derive(Drop)]
+#[derive(Clone, Copy)]
 pub struct Built {
     pub answer: u32,
     pub vertices: u32,
@@ -29,7 +31,7 @@ pub struct Built {
 
 // What a check answers: rule and slot are 0 but for 7.
 #[repr(C)]
-#[derive(Drop)]
+#[derive(Clone, Copy)]
 pub struct Checked {
     pub answer: u32,
     pub rule: u32,
@@ -38,7 +40,7 @@ pub struct Checked {
 
 // What a run answers: a check's answer, and the counts of the table it leaves.
 #[repr(C)]
-#[derive(Drop)]
+#[derive(Clone, Copy)]
 pub struct Ran {
     pub answer: u32,
     pub rule: u32,
@@ -49,7 +51,7 @@ pub struct Ran {
 
 // What a ring answers.
 #[repr(C)]
-#[derive(Drop)]
+#[derive(Clone, Copy)]
 pub struct Listed {
     pub answer: u32,
     pub visited: u32,
@@ -58,7 +60,7 @@ pub struct Listed {
 
 // What a move answers: `moved` is 1 where the walker moved, else 0.
 #[repr(C)]
-#[derive(Drop)]
+#[derive(Clone, Copy)]
 pub struct Moved {
     pub answer: u32,
     pub moved: u32,
@@ -111,7 +113,7 @@ pub extern "C" fn strandomir_check(
     vertices: u32,
     corners: u32,
 ) -> Checked
-    ensures { verdict result ≡ verdict_of (before cv co cm vc vm vp (counts_of vertices corners)) }
+    ensures { verdict result ≡ verdict_of (seen cv co cm vc vm vp (counts_of vertices corners)) }
 {
     let counts = Counts {
         vertices: vertices,
@@ -177,7 +179,7 @@ pub extern "C" fn strandomir_ring_corners(
     vertex: u32,
     list: &mut [u32],
 ) -> Listed
-    ensures { listing result list.new ≡ ring_of Corners vertex (before cv co cm vc vm vp (counts_of vertices corners))
+    ensures { listing result list.new ≡ ring_of Corners vertex (seen cv co cm vc vm vp (counts_of vertices corners))
         list.old }
 {
     let counts = Counts {
@@ -206,7 +208,7 @@ pub extern "C" fn strandomir_ring_vertices(
     vertex: u32,
     list: &mut [u32],
 ) -> Listed
-    ensures { listing result list.new ≡ ring_of Vertices vertex (before cv co cm vc vm vp (counts_of vertices corners))
+    ensures { listing result list.new ≡ ring_of Vertices vertex (seen cv co cm vc vm vp (counts_of vertices corners))
         list.old }
 {
     let counts = Counts {
@@ -235,7 +237,7 @@ pub extern "C" fn strandomir_ring_faces(
     vertex: u32,
     list: &mut [u32],
 ) -> Listed
-    ensures { listing result list.new ≡ ring_of Faces vertex (before cv co cm vc vm vp (counts_of vertices corners))
+    ensures { listing result list.new ≡ ring_of Faces vertex (seen cv co cm vc vm vp (counts_of vertices corners))
         list.old }
 {
     let counts = Counts {
@@ -264,7 +266,7 @@ pub extern "C" fn strandomir_ring_edges(
     vertex: u32,
     list: &mut [u32],
 ) -> Listed
-    ensures { listing result list.new ≡ ring_of Edges vertex (before cv co cm vc vm vp (counts_of vertices corners))
+    ensures { listing result list.new ≡ ring_of Edges vertex (seen cv co cm vc vm vp (counts_of vertices corners))
         list.old }
 {
     let counts = Counts {
@@ -293,7 +295,7 @@ pub extern "C" fn strandomir_ring_bounding_edges(
     vertex: u32,
     list: &mut [u32],
 ) -> Listed
-    ensures { listing result list.new ≡ ring_of BoundingEdges vertex (before cv co cm vc vm vp (counts_of vertices corners))
+    ensures { listing result list.new ≡ ring_of BoundingEdges vertex (seen cv co cm vc vm vp (counts_of vertices corners))
         list.old }
 {
     let counts = Counts {
@@ -336,7 +338,7 @@ pub extern "C" fn strandomir_move_to_next<'s, 'a>(
     vertices: u32,
     corners: u32,
 ) -> Moved
-    ensures { MovedBy (to_next (before cv co cm vc vm vp (counts_of vertices corners))
+    ensures { MovedBy (to_next (seen cv co cm vc vm vp (counts_of vertices corners))
         corner.old) result corner.new }
 {
     let m = walker::next_from(Corner(*corner), cv, co, cm, vc, vm, vp, vertices, corners);
@@ -358,7 +360,7 @@ pub extern "C" fn strandomir_move_to_previous<'s, 'a>(
     vertices: u32,
     corners: u32,
 ) -> Moved
-    ensures { MovedBy (to_previous (before cv co cm vc vm vp (counts_of vertices corners))
+    ensures { MovedBy (to_previous (seen cv co cm vc vm vp (counts_of vertices corners))
         corner.old) result corner.new }
 {
     let m = walker::previous_from(Corner(*corner), cv, co, cm, vc, vm, vp, vertices, corners);
@@ -380,7 +382,7 @@ pub extern "C" fn strandomir_move_to_opposite<'s, 'a>(
     vertices: u32,
     corners: u32,
 ) -> Moved
-    ensures { MovedBy (to_opposite (before cv co cm vc vm vp (counts_of vertices corners))
+    ensures { MovedBy (to_opposite (seen cv co cm vc vm vp (counts_of vertices corners))
         corner.old) result corner.new }
 {
     let m = walker::opposite_from(Corner(*corner), cv, co, cm, vc, vm, vp, vertices, corners);
@@ -402,7 +404,7 @@ pub extern "C" fn strandomir_swing_left_or_stay<'s, 'a>(
     vertices: u32,
     corners: u32,
 ) -> Moved
-    ensures { MovedBy (swung_left (before cv co cm vc vm vp (counts_of vertices corners))
+    ensures { MovedBy (swung_left (seen cv co cm vc vm vp (counts_of vertices corners))
         corner.old) result corner.new }
 {
     let m = walker::swing_left_from(Corner(*corner), cv, co, cm, vc, vm, vp, vertices, corners);
@@ -424,7 +426,7 @@ pub extern "C" fn strandomir_swing_right_or_stay<'s, 'a>(
     vertices: u32,
     corners: u32,
 ) -> Moved
-    ensures { MovedBy (swung_right (before cv co cm vc vm vp (counts_of vertices corners))
+    ensures { MovedBy (swung_right (seen cv co cm vc vm vp (counts_of vertices corners))
         corner.old) result corner.new }
 {
     let m = walker::swing_right_from(Corner(*corner), cv, co, cm, vc, vm, vp, vertices, corners);

@@ -3,6 +3,8 @@
 // Every read and write is total, but for those of a slot that is known to be there. Past the end a read gives what get_or gives there (no
 // opposite, no corner, a mark that says deleted, else 0) and a write does nothing, so that no caller owes a bound; on a well-formed table
 // no index is ever past the end.
+#![tactic(auto)]
+
 ghost use Rattle.std.specs.Prelude.{◌≡◌, ◌+◌, ◌*◌, ◌<◌, get_or, set, length};
 ghost use Rattle.corner.specs.Corner.{absent};
 ghost use Rattle.table.specs.Slots.{vertex_at, opposite_at, corner_at, nought, point_at, with_point, with_pair, three, blanked};
@@ -13,7 +15,7 @@ use corner::Corner;
 use vertex::{Point, Vertex};
 
 // How many vertex slots and corner slots are used: by value in, and back in the answer.
-#[derive(Drop)]
+#[derive(Clone, Copy)]
 pub struct Counts {
     pub vertices: u32,
     pub corners: u32,

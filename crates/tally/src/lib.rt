@@ -1,6 +1,8 @@
 // Vertices, edges and faces of a table, counted.
+#![tactic(auto)]
+
 ghost use Rattle.std.specs.Prelude.{◌≡◌};
-ghost use Rattle.table.specs.Lent.{before};
+ghost use Rattle.table.specs.Lent.{seen};
 ghost use Rattle.table.specs.Euler.{count, vertex_count, face_count, bare_count, edge_count};
 ghost use Rattle.tally.specs.Tally.{passes as passes_of, bare as bare_of, paired as paired_of};
 ghost use Rattle.tally.specs.Commands.{kind_of, of_kind};
@@ -10,7 +12,7 @@ use flag::{both, either, one_if};
 use table::{Counts, at, is_live, opposite_of};
 
 // What is counted. An edge is counted at its corners: one on the border at one, an inner one at two.
-#[derive(Drop)]
+#[derive(Clone, Copy)]
 pub enum What {
     Vertices,
     Faces,
@@ -60,7 +62,7 @@ fn count_of(what: What, co: &[u32], cm: &[u32], vm: &[u32], nv: u32, nc: u32, n:
     total
 }
 
-#[derive(Drop)]
+#[derive(Clone, Copy)]
 pub struct Sizes {
     pub vertices: u32,
     pub edges: u64,
@@ -78,9 +80,9 @@ pub fn tally(
     vp: &[f32],
     counts: Counts,
 ) -> Sizes
-    ensures { (result.vertices ≡ vertex_count (before cv co cm vc vm vp counts))
-        × (result.edges ≡ edge_count (before cv co cm vc vm vp counts)) × (result.faces ≡ face_count (before cv co cm vc vm vp counts))
-        × (result.border ≡ bare_count (before cv co cm vc vm vp counts)) }
+    ensures { (result.vertices ≡ vertex_count (seen cv co cm vc vm vp counts))
+        × (result.edges ≡ edge_count (seen cv co cm vc vm vp counts)) × (result.faces ≡ face_count (seen cv co cm vc vm vp counts))
+        × (result.border ≡ bare_count (seen cv co cm vc vm vp counts)) }
 {
     let nv = counts.vertices;
     let nc = counts.corners;

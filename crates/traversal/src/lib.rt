@@ -1,7 +1,9 @@
 // traversal.rs: the corners, vertices, faces, edges and bounding edges around a vertex, written to a lent list. These are the calls: what they
 // refuse before a walk, and where it begins.
+#![tactic(auto)]
+
 ghost use Rattle.std.specs.Prelude.{◌≡◌, List, ℕ};
-ghost use Rattle.table.specs.Lent.{before};
+ghost use Rattle.table.specs.Lent.{seen};
 ghost use Rattle.traversal_lists.specs.Reached.{Fit};
 ghost use Rattle.traversal_lists.specs.Outcome.{outcome};
 ghost use Rattle.traversal_lists.specs.declared.Kind.{Kind};
@@ -16,7 +18,7 @@ use traversal_visits::used_slots;
 use vertex::Vertex;
 
 // What stands before a walk: the answer 1, 9 or 10; or 0, and where it begins.
-#[derive(Drop)]
+#[derive(Clone, Copy)]
 struct Start {
     answer: u32,
     used: u32,
@@ -44,7 +46,7 @@ fn start_of(
     counts: Counts,
     vertex: Vertex,
 ) -> Start
-    ensures { ((kind : Kind) (list : List ℕ) → ring_of kind vertex.0 (before cv co cm vc vm vp counts) list
+    ensures { ((kind : Kind) (list : List ℕ) → ring_of kind vertex.0 (seen cv co cm vc vm vp counts) list
         ≡ begun kind cv.now co.now cm.now result.answer result.used result.corner.0 list)
         × (result.answer ≡ 0 → Fit cv.now co.now cm.now result.used) }
 {
@@ -78,7 +80,7 @@ pub fn ring_corners(
     vertex: Vertex,
     list: &mut [u32],
 ) -> Ring
-    ensures { outcome result list.new ≡ ring_of Corners vertex.0 (before cv co cm vc vm vp counts) list.old }
+    ensures { outcome result list.new ≡ ring_of Corners vertex.0 (seen cv co cm vc vm vp counts) list.old }
 {
     let s = start_of(cv, co, cm, vc, vm, vp, counts, vertex);
     if s.answer == 0 {
@@ -99,7 +101,7 @@ pub fn ring_vertices(
     vertex: Vertex,
     list: &mut [u32],
 ) -> Ring
-    ensures { outcome result list.new ≡ ring_of Vertices vertex.0 (before cv co cm vc vm vp counts) list.old }
+    ensures { outcome result list.new ≡ ring_of Vertices vertex.0 (seen cv co cm vc vm vp counts) list.old }
 {
     let s = start_of(cv, co, cm, vc, vm, vp, counts, vertex);
     if s.answer == 0 {
@@ -120,7 +122,7 @@ pub fn ring_faces(
     vertex: Vertex,
     list: &mut [u32],
 ) -> Ring
-    ensures { outcome result list.new ≡ ring_of Faces vertex.0 (before cv co cm vc vm vp counts) list.old }
+    ensures { outcome result list.new ≡ ring_of Faces vertex.0 (seen cv co cm vc vm vp counts) list.old }
 {
     let s = start_of(cv, co, cm, vc, vm, vp, counts, vertex);
     if s.answer == 0 {
@@ -141,7 +143,7 @@ pub fn ring_edges(
     vertex: Vertex,
     list: &mut [u32],
 ) -> Ring
-    ensures { outcome result list.new ≡ ring_of Edges vertex.0 (before cv co cm vc vm vp counts) list.old }
+    ensures { outcome result list.new ≡ ring_of Edges vertex.0 (seen cv co cm vc vm vp counts) list.old }
 {
     let s = start_of(cv, co, cm, vc, vm, vp, counts, vertex);
     if s.answer == 0 {
@@ -163,7 +165,7 @@ pub fn ring_bounding_edges(
     list: &mut [u32],
 ) -> Ring
     ensures { outcome result list.new ≡ ring_of BoundingEdges vertex.0
-        (before cv co cm vc vm vp counts) list.old }
+        (seen cv co cm vc vm vp counts) list.old }
 {
     let s = start_of(cv, co, cm, vc, vm, vp, counts, vertex);
     if s.answer == 0 {

@@ -1,6 +1,8 @@
 // traversal.rs: the five lists of a walk about a vertex, written to a lent list. All are maps of one walk.
 //
 // A walk is made twice: first to count, so that a refused call writes nothing; then as many swings again, without a test, to write.
+#![tactic(auto)]
+
 ghost use Rattle.std.specs.Prelude.{◌≡◌, true, false, cond, map, ◌+◌, ◌<◌, ◌≤◌, leb, length};
 ghost use Rattle.std.proofs.lemmas.List.Edits.{sets};
 ghost use Rattle.corner.specs.Corner.{absent, turn};
@@ -16,7 +18,7 @@ use table::at_there;
 use traversal_visits::{Counted, count_walk};
 
 // Which list is asked for.
-#[derive(Drop)]
+#[derive(Clone, Copy)]
 pub enum Kind {
     Corners,
     Vertices,
@@ -26,7 +28,7 @@ pub enum Kind {
 }
 
 // The answer of a ring call.
-#[derive(Drop)]
+#[derive(Clone, Copy)]
 pub struct Ring {
     pub answer: u32,
     pub visited: u32,

@@ -1,4 +1,6 @@
 // traversal.rs: a short closed ring, written on the way, in one walk with every test. Any other is written by two walks (`lists`).
+#![tactic(auto)]
+
 ghost use Rattle.std.specs.Prelude.{◌≡◌, ◌++◌, ◌<◌, ◌≤◌, length, take, drop};
 ghost use Rattle.corner.specs.Corner.{absent};
 ghost use Rattle.traversal_visits.specs.Walk.{walk};

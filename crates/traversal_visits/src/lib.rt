@@ -1,5 +1,7 @@
 // traversal.rs: the corners that a walk about a vertex visits, counted: swings to the left from the vertex's corner until it is back there, or,
 // past a border, from that corner to the right too. It is made with every test, on any table.
+#![tactic(auto)]
+
 ghost use Rattle.std.specs.Prelude.{◌≡◌, true, not, cond, ℕ, ◌+◌, ◌*◌, ◌/◌, ◌<◌, ◌≤◌, min, eqb, length};
 ghost use Rattle.corner.specs.Corner.{absent, turn};
 ghost use Rattle.traversal_visits.specs.Walk.{unmarked as unmarked_of, face_live, last_crossed, side, walk, counted};
@@ -9,7 +11,7 @@ use corner::Corner;
 use table::at_there;
 
 // How one side of a walk ends.
-#[derive(Drop)]
+#[derive(Clone, Copy)]
 pub enum End {
     AtBorder,
     AtTangle,
@@ -17,14 +19,14 @@ pub enum End {
 }
 
 // One side of a walk, counted: its visits after the first corner, and how it ends.
-#[derive(Drop)]
+#[derive(Clone, Copy)]
 pub struct Count {
     pub visits: u32,
     pub end: End,
 }
 
 // A walk, counted: its visits after the first corner, to the left and to the right.
-#[derive(Drop)]
+#[derive(Clone, Copy)]
 pub enum Counted {
     Tangled,
     Closed(u32),

@@ -1,5 +1,7 @@
 // The stored list, replayed record by record against the library: a line for each record that comes out otherwise than listed, then how
 // many records of each op there are, how often each answer is listed, and how many records were wrong.
+#![tactic(auto)]
+
 ghost use Rattle.std.specs.Prelude.{◌≡◌, ◌≤◌, length};
 ghost use Rattle.vectors.specs.Places.{place_of};
 

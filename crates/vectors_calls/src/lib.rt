@@ -1,4 +1,6 @@
 // The records of the stored list that call the build and the run: what comes out is held to what they list.
+#![tactic(auto)]
+
 ghost use Rattle.std.specs.Prelude.{◌≡◌, length};
 ghost use Rattle.table.specs.Lent.{before, after};
 ghost use Rattle.vectors_changes.specs.Change.{played};

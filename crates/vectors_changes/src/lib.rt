@@ -1,4 +1,6 @@
 // The records of the stored list that change the table themselves: new rooms, the counts, one entry of a part.
+#![tactic(auto)]
+
 ghost use Rattle.std.specs.Prelude.{◌≡◌, get_or};
 ghost use Rattle.table.specs.Lent.{before, after};
 ghost use Rattle.words.specs.Same.{one_unless};
@@ -22,7 +24,7 @@ use table::{Counts, at, fill, put, put_float};
 use words::{one_unless, put_numbers};
 
 // The lengths of the six parts.
-#[derive(Drop)]
+#[derive(Clone, Copy)]
 pub struct Rooms {
     pub cv: u32,
     pub co: u32,
@@ -33,7 +35,7 @@ pub struct Rooms {
 }
 
 // What a record leaves: the counts, and 1 where it is wrong.
-#[derive(Drop)]
+#[derive(Clone, Copy)]
 pub struct Left {
     pub counts: Counts,
     pub wrong: u32,

@@ -1,7 +1,9 @@
 // The records of the stored list that only look at the table: the call that a record asks for is made, and what comes out is held to what
 // it lists.
+#![tactic(auto)]
+
 ghost use Rattle.std.specs.Prelude.{◌≡◌, length};
-ghost use Rattle.table.specs.Lent.{counts_of, before};
+ghost use Rattle.table.specs.Lent.{counts_of, seen};
 ghost use Rattle.traversal_lists.specs.Outcome.{outcome};
 ghost use Rattle.traversal.specs.Ring.{ring_of};
 ghost use Rattle.words.specs.Same.{one_unless};
@@ -97,7 +99,7 @@ fn replay_check(
     counts: Counts,
     w: &[u32],
 ) -> u32
-    ensures { result ≡ one_unless (check_right (before cv co cm vc vm vp counts) w.now) }
+    ensures { result ≡ one_unless (check_right (seen cv co cm vc vm vp counts) w.now) }
 {
     let v = checker::check(cv, co, cm, vc, vm, vp, counts);
     one_unless(both(checked_as(v, w), w.len() == 3))
@@ -118,7 +120,7 @@ fn ring_of(
     list: &mut [u32],
 ) -> Ring
     ensures { outcome result list.new ≡ ring_of (ring_kind_of kind) vertex.0
-        (before cv co cm vc vm vp counts) list.old }
+        (seen cv co cm vc vm vp counts) list.old }
 {
     if kind == 0 {
         return traversal::ring_corners(cv, co, cm, vc, vm, vp, counts, vertex, list);
@@ -155,7 +157,7 @@ fn replay_ring(
     w: &[u32],
     list: &mut [u32],
 ) -> u32
-    ensures { result ≡ one_unless (ring_right (before cv co cm vc vm vp counts) (length list.old) w.now) }
+    ensures { result ≡ one_unless (ring_right (seen cv co cm vc vm vp counts) (length list.old) w.now) }
 {
     fill(list, at(w, 6, 0));
     let b = ring_of(
@@ -187,7 +189,7 @@ fn move_of<'a>(
     vertices: u32,
     corners: u32,
 ) -> Moved
-    ensures { result ≡ move_of kind (before cv co cm vc vm vp (counts_of vertices corners)) corner.0 }
+    ensures { result ≡ move_of kind (seen cv co cm vc vm vp (counts_of vertices corners)) corner.0 }
 {
     if kind == 0 {
         return vectors_moves::moved_to_next(corner, cv, co, cm, vc, vm, vp, vertices, corners);
@@ -214,7 +216,7 @@ fn replay_move<'a>(
     counts: Counts,
     w: &[u32],
 ) -> u32
-    ensures { result ≡ one_unless (move_right (before cv co cm vc vm vp counts) w.now) }
+    ensures { result ≡ one_unless (move_right (seen cv co cm vc vm vp counts) w.now) }
 {
     let kind = at(w, 0, 0);
     let corner = Corner(at(w, 1, 0));
@@ -318,7 +320,7 @@ pub fn look<'a>(
     w: &[u32],
     list: &mut [u32],
 ) -> u32
-    ensures { result ≡ one_unless (look_right op (before cv co cm vc vm vp counts) (length list.old) w.now) }
+    ensures { result ≡ one_unless (look_right op (seen cv co cm vc vm vp counts) (length list.old) w.now) }
 {
     if op == 5 {
         return replay_check(cv, co, cm, vc, vm, vp, counts, w);

@@ -1,7 +1,9 @@
 // The five moves on a corner, each by a walker that is made here, lent to `walker` as `&mut`, and read afterwards: so the records of
 // moves are played by the moves in place.
+#![tactic(auto)]
+
 ghost use Rattle.std.specs.Prelude.{◌≡◌};
-ghost use Rattle.table.specs.Lent.{counts_of, before};
+ghost use Rattle.table.specs.Lent.{counts_of, seen};
 ghost use Rattle.walker.specs.Walker.{to_next, to_previous, to_opposite, swung_left, swung_right};
 
 use corner::Corner;
@@ -18,7 +20,7 @@ pub fn moved_to_next<'a>(
     vertices: u32,
     corners: u32,
 ) -> Moved
-    ensures { result ≡ to_next (before cv co cm vc vm vp (counts_of vertices corners)) corner.0 }
+    ensures { result ≡ to_next (seen cv co cm vc vm vp (counts_of vertices corners)) corner.0 }
 {
     let mut w = Walker { corner: corner };
     let s = walker::move_to_next(&mut w, cv, co, cm, vc, vm, vp, vertices, corners);
@@ -39,7 +41,7 @@ pub fn moved_to_previous<'a>(
     vertices: u32,
     corners: u32,
 ) -> Moved
-    ensures { result ≡ to_previous (before cv co cm vc vm vp (counts_of vertices corners)) corner.0 }
+    ensures { result ≡ to_previous (seen cv co cm vc vm vp (counts_of vertices corners)) corner.0 }
 {
     let mut w = Walker { corner: corner };
     let s = walker::move_to_previous(&mut w, cv, co, cm, vc, vm, vp, vertices, corners);
@@ -60,7 +62,7 @@ pub fn moved_to_opposite<'a>(
     vertices: u32,
     corners: u32,
 ) -> Moved
-    ensures { result ≡ to_opposite (before cv co cm vc vm vp (counts_of vertices corners)) corner.0 }
+    ensures { result ≡ to_opposite (seen cv co cm vc vm vp (counts_of vertices corners)) corner.0 }
 {
     let mut w = Walker { corner: corner };
     let s = walker::move_to_opposite(&mut w, cv, co, cm, vc, vm, vp, vertices, corners);
@@ -81,7 +83,7 @@ pub fn swung_left<'a>(
     vertices: u32,
     corners: u32,
 ) -> Moved
-    ensures { result ≡ swung_left (before cv co cm vc vm vp (counts_of vertices corners)) corner.0 }
+    ensures { result ≡ swung_left (seen cv co cm vc vm vp (counts_of vertices corners)) corner.0 }
 {
     let mut w = Walker { corner: corner };
     let s = walker::swing_left_or_stay(&mut w, cv, co, cm, vc, vm, vp, vertices, corners);
@@ -102,7 +104,7 @@ pub fn swung_right<'a>(
     vertices: u32,
     corners: u32,
 ) -> Moved
-    ensures { result ≡ swung_right (before cv co cm vc vm vp (counts_of vertices corners)) corner.0 }
+    ensures { result ≡ swung_right (seen cv co cm vc vm vp (counts_of vertices corners)) corner.0 }
 {
     let mut w = Walker { corner: corner };
     let s = walker::swing_right_or_stay(&mut w, cv, co, cm, vc, vm, vp, vertices, corners);

@@ -1,6 +1,8 @@
 // One record of the stored list, played on the current table: the call that it asks for is made, and what comes out is held to what it lists.
 //
 // One record of the stored list, replayed on parts at their largest: it is lent as much of them as the current table has.
+#![tactic(auto)]
+
 ghost use Rattle.std.specs.Prelude.{◌≡◌, min, length};
 ghost use Rattle.table.specs.Lent.{before, after};
 ghost use Rattle.vectors_changes.specs.Change.{played};

@@ -8,10 +8,10 @@ ghost use Rattle.std.specs.Float.Ieee.{to_bits, of_bits};
 ghost use Rattle.std.specs.Float.Ieee.Scale.{finite};
 ghost use Rattle.vertex.specs.Point.{finite_point, point_of_bits};
 
-#[derive(Drop)]
+#[derive(Clone, Copy)]
 pub struct Vertex(pub u32);
 
-#[derive(Drop)]
+#[derive(Clone, Copy)]
 pub struct Point {
     pub x: f32,
     pub y: f32,

@@ -1,28 +1,30 @@
 // walker.rs: a walker stands at one corner, and is moved to the next, the previous or the opposite corner, or swings about its vertex.
 //
 // The lent table goes beside it. Each move is a function on the corner (`next_from` and so on); the walker's own move is thin over it.
+#![tactic(auto)]
+
 ghost use Rattle.std.specs.Prelude.{◌≡◌, true, false};
-ghost use Rattle.table.specs.Lent.{counts_of, before};
+ghost use Rattle.table.specs.Lent.{counts_of, seen};
 ghost use Rattle.walker.specs.Walker.{stays, arrives, standing as standing_of, refusal as refusal_of, step_to, step_over, swing_to, to_next, to_previous, to_opposite, swung_left, swung_right};
 
 use corner::Corner;
 use table::{at, is_live, is_shaped};
 
 // A walker: one corner number.
-#[derive(Drop)]
+#[derive(Clone, Copy)]
 pub struct Walker {
     pub corner: Corner,
 }
 
 // The answer, and whether the walker moved: not after a refusal, nor where an absent opposite made it stay.
-#[derive(Drop)]
+#[derive(Clone, Copy)]
 pub struct Step {
     pub answer: u32,
     pub moved: bool,
 }
 
 // A move on the corner: where it leaves the walker.
-#[derive(Drop)]
+#[derive(Clone, Copy)]
 pub struct Moved {
     pub corner: Corner,
     pub step: Step,
@@ -123,7 +125,7 @@ fn refusal(
     vertices: u32,
     corners: u32,
 ) -> u32
-    ensures { result ≡ refusal_of (before cv co cm vc vm vp (counts_of vertices corners)) corner.0 }
+    ensures { result ≡ refusal_of (seen cv co cm vc vm vp (counts_of vertices corners)) corner.0 }
 {
     if is_shaped(cv.len(), co.len(), cm.len(), vc.len(), vm.len(), vp.len()) {
         return standing(cm, corners, corner);
@@ -144,7 +146,7 @@ pub fn next_from<'a>(
     vertices: u32,
     corners: u32,
 ) -> Moved
-    ensures { result ≡ to_next (before cv co cm vc vm vp (counts_of vertices corners)) corner.0 }
+    ensures { result ≡ to_next (seen cv co cm vc vm vp (counts_of vertices corners)) corner.0 }
 {
     let a = refusal(corner, cv, co, cm, vc, vm, vp, vertices, corners);
     if a == 0 {
@@ -164,7 +166,7 @@ pub fn previous_from<'a>(
     vertices: u32,
     corners: u32,
 ) -> Moved
-    ensures { result ≡ to_previous (before cv co cm vc vm vp (counts_of vertices corners)) corner.0 }
+    ensures { result ≡ to_previous (seen cv co cm vc vm vp (counts_of vertices corners)) corner.0 }
 {
     let a = refusal(corner, cv, co, cm, vc, vm, vp, vertices, corners);
     if a == 0 {
@@ -184,7 +186,7 @@ pub fn opposite_from<'a>(
     vertices: u32,
     corners: u32,
 ) -> Moved
-    ensures { result ≡ to_opposite (before cv co cm vc vm vp (counts_of vertices corners)) corner.0 }
+    ensures { result ≡ to_opposite (seen cv co cm vc vm vp (counts_of vertices corners)) corner.0 }
 {
     let a = refusal(corner, cv, co, cm, vc, vm, vp, vertices, corners);
     if a == 0 {
@@ -204,7 +206,7 @@ pub fn swing_left_from<'a>(
     vertices: u32,
     corners: u32,
 ) -> Moved
-    ensures { result ≡ swung_left (before cv co cm vc vm vp (counts_of vertices corners)) corner.0 }
+    ensures { result ≡ swung_left (seen cv co cm vc vm vp (counts_of vertices corners)) corner.0 }
 {
     let a = refusal(corner, cv, co, cm, vc, vm, vp, vertices, corners);
     if a == 0 {
@@ -224,7 +226,7 @@ pub fn swing_right_from<'a>(
     vertices: u32,
     corners: u32,
 ) -> Moved
-    ensures { result ≡ swung_right (before cv co cm vc vm vp (counts_of vertices corners)) corner.0 }
+    ensures { result ≡ swung_right (seen cv co cm vc vm vp (counts_of vertices corners)) corner.0 }
 {
     let a = refusal(corner, cv, co, cm, vc, vm, vp, vertices, corners);
     if a == 0 {
@@ -246,8 +248,8 @@ pub fn move_to_next<'s, 'a>(
     vertices: u32,
     corners: u32,
 ) -> Step
-    ensures { (result ≡ (to_next (before cv co cm vc vm vp (counts_of vertices corners)) walker.old.corner.0).step)
-        × (walker.new.corner ≡ (to_next (before cv co cm vc vm vp (counts_of vertices corners)) walker.old.corner.0).corner) }
+    ensures { (result ≡ (to_next (seen cv co cm vc vm vp (counts_of vertices corners)) walker.old.corner.0).step)
+        × (walker.new.corner ≡ (to_next (seen cv co cm vc vm vp (counts_of vertices corners)) walker.old.corner.0).corner) }
 {
     let m = next_from(walker.corner, cv, co, cm, vc, vm, vp, vertices, corners);
     walker.corner = m.corner;
@@ -265,8 +267,8 @@ pub fn move_to_previous<'s, 'a>(
     vertices: u32,
     corners: u32,
 ) -> Step
-    ensures { (result ≡ (to_previous (before cv co cm vc vm vp (counts_of vertices corners)) walker.old.corner.0).step)
-        × (walker.new.corner ≡ (to_previous (before cv co cm vc vm vp (counts_of vertices corners)) walker.old.corner.0).corner) }
+    ensures { (result ≡ (to_previous (seen cv co cm vc vm vp (counts_of vertices corners)) walker.old.corner.0).step)
+        × (walker.new.corner ≡ (to_previous (seen cv co cm vc vm vp (counts_of vertices corners)) walker.old.corner.0).corner) }
 {
     let m = previous_from(walker.corner, cv, co, cm, vc, vm, vp, vertices, corners);
     walker.corner = m.corner;
@@ -284,8 +286,8 @@ pub fn move_to_opposite<'s, 'a>(
     vertices: u32,
     corners: u32,
 ) -> Step
-    ensures { (result ≡ (to_opposite (before cv co cm vc vm vp (counts_of vertices corners)) walker.old.corner.0).step)
-        × (walker.new.corner ≡ (to_opposite (before cv co cm vc vm vp (counts_of vertices corners)) walker.old.corner.0).corner) }
+    ensures { (result ≡ (to_opposite (seen cv co cm vc vm vp (counts_of vertices corners)) walker.old.corner.0).step)
+        × (walker.new.corner ≡ (to_opposite (seen cv co cm vc vm vp (counts_of vertices corners)) walker.old.corner.0).corner) }
 {
     let m = opposite_from(walker.corner, cv, co, cm, vc, vm, vp, vertices, corners);
     walker.corner = m.corner;
@@ -303,8 +305,8 @@ pub fn swing_left_or_stay<'s, 'a>(
     vertices: u32,
     corners: u32,
 ) -> Step
-    ensures { (result ≡ (swung_left (before cv co cm vc vm vp (counts_of vertices corners)) walker.old.corner.0).step)
-        × (walker.new.corner ≡ (swung_left (before cv co cm vc vm vp (counts_of vertices corners)) walker.old.corner.0).corner) }
+    ensures { (result ≡ (swung_left (seen cv co cm vc vm vp (counts_of vertices corners)) walker.old.corner.0).step)
+        × (walker.new.corner ≡ (swung_left (seen cv co cm vc vm vp (counts_of vertices corners)) walker.old.corner.0).corner) }
 {
     let m = swing_left_from(walker.corner, cv, co, cm, vc, vm, vp, vertices, corners);
     walker.corner = m.corner;
@@ -322,8 +324,8 @@ pub fn swing_right_or_stay<'s, 'a>(
     vertices: u32,
     corners: u32,
 ) -> Step
-    ensures { (result ≡ (swung_right (before cv co cm vc vm vp (counts_of vertices corners)) walker.old.corner.0).step)
-        × (walker.new.corner ≡ (swung_right (before cv co cm vc vm vp (counts_of vertices corners)) walker.old.corner.0).corner) }
+    ensures { (result ≡ (swung_right (seen cv co cm vc vm vp (counts_of vertices corners)) walker.old.corner.0).step)
+        × (walker.new.corner ≡ (swung_right (seen cv co cm vc vm vp (counts_of vertices corners)) walker.old.corner.0).corner) }
 {
     let m = swing_right_from(walker.corner, cv, co, cm, vc, vm, vp, vertices, corners);
     walker.corner = m.corner;

@@ -1,6 +1,8 @@
 // The stored list: little-endian words in records, each `op n w1 .. wn`; and the comparisons that the replay makes with them.
 //
 // Every read is total: past the end of the list, or of a record, a word reads 0.
+#![tactic(auto)]
+
 ghost use Rattle.std.specs.Prelude.{◌≡◌, ◌+◌, ◌*◌, ◌/◌, ◌<◌, ◌≤◌, min, length, take, drop};
 ghost use Rattle.words.specs.Words.{word_of, word_at, written, tabled, word_no, number_no};
 ghost use Rattle.words.specs.Same.{every, same_word, same_number, holds_of, hold_numbers_of, one_unless};

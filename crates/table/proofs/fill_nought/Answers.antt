@@ -1,0 +1,26 @@
+use Rattle.table.specs.Slots.{nought}
+use lib.Ieee.{of_bits, binary32, nan_bits}
+use Rattle.table.proofs.Lists.{filling_start, filling_on, filling_end}
+use native.Mathlib.Omega.{arith}
+use Prim.Native.Nat.{◌-◌}
+use Rattle.table.proofs.fill_nought.Goals as goal
+
+pub float_from_bits-zero : goal.float_from_bits-zero
+unfolding nan_bits
+float_from_bits-zero c = tt
+
+pub loop-i-init : goal.loop-i-init
+loop-i-init c = filling_start c.args.l.now (of_bits binary32 0)
+
+pub overflow_add-i : goal.overflow_add-i
+overflow_add-i c = omega arith
+
+pub loop-i-smaller : goal.loop-i-smaller
+loop-i-smaller c = omega (arith, c.loop-i.invariant.size)
+
+pub loop-i-preserved : goal.loop-i-preserved
+loop-i-preserved c = filling_on c.args.l.now (of_bits binary32 0) c.loop-i.l c.loop-i.i c.loop-i.invariant c.loop-i-test.true
+
+pub returns : goal.returns
+unfolding nought
+returns c = filling_end c.args.l.now (of_bits binary32 0) c.loop-i.l c.loop-i.i c.loop-i.invariant c.loop-i-test.false
