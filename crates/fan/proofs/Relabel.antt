@@ -24,6 +24,7 @@ relabel_stays (c ∷ cs) v l d x h e = relabel_stays cs v (set l c v) d x (rw le
     go (no z) = get_or-set_other l c d v x z ∙ e
 
 pub relabel_in : (cs : List ℕ) (v : ℕ) (l : List ℕ) (d x : ℕ) → d < length l → Memᴰ d cs → get_or (relabel cs v l) d x ≡ v
+relabel_in [] v l d x h m = elim m [ ]
 relabel_in (c ∷ cs) v l d x h (Memᴰ.head e) = relabel_stays cs v (set l c v) d x (rw length-set h)
     (ap (λ (i : ℕ). get_or (set l c v) i x) e ∙ get_or-set_same l c v x (subst (λ (i : ℕ). i < length l) e h))
 relabel_in (c ∷ cs) v l d x h (Memᴰ.tail m) = relabel_in cs v (set l c v) d x (rw length-set h) m

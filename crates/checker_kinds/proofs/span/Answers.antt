@@ -1,0 +1,43 @@
+-- `checker_kinds::span` meets its contract: one arm a test.
+use Rattle.checker_kinds.specs.Kinds.{span}
+use Rattle.checker_kinds.proofs.span.Goals as goal
+
+pub returns-in-Counts : goal.returns-in-Counts
+unfolding span
+returns-in-Counts c = rw c.in-Counts.is
+
+pub returns-in-CornerMark : goal.returns-in-CornerMark
+unfolding span
+returns-in-CornerMark c = rw c.in-CornerMark.is
+
+pub returns-in-FaceMark : goal.returns-in-FaceMark
+unfolding span
+returns-in-FaceMark c = rw c.in-FaceMark.is
+
+pub returns-in-VertexMark : goal.returns-in-VertexMark
+unfolding span
+returns-in-VertexMark c = rw c.in-VertexMark.is
+
+pub returns-in-CornerVertex : goal.returns-in-CornerVertex
+unfolding span
+returns-in-CornerVertex c = rw c.in-CornerVertex.is
+
+pub returns-in-FaceVertex : goal.returns-in-FaceVertex
+unfolding span
+returns-in-FaceVertex c = rw c.in-FaceVertex.is
+
+pub returns-in-Opposite : goal.returns-in-Opposite
+unfolding span
+returns-in-Opposite c = rw c.in-Opposite.is
+
+pub returns-in-VertexCorner : goal.returns-in-VertexCorner
+unfolding span
+returns-in-VertexCorner c = rw c.in-VertexCorner.is
+
+pub returns-in-CornerFan : goal.returns-in-CornerFan
+unfolding span
+returns-in-CornerFan c = rw c.in-CornerFan.is
+
+pub returns-in-Finite : goal.returns-in-Finite
+unfolding span
+returns-in-Finite c = rw c.in-Finite.is
