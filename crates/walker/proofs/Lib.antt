@@ -1,4 +1,3 @@
 -- Laws of the moves: an arm at a time, and on a well-formed table.
 pub mod Moves
 pub mod Sound
-pub mod Thin

@@ -43,7 +43,7 @@ pub overflow_sub-rest : goal.overflow_sub-rest
 overflow_sub-rest c = omega arith
 
 pub onward-via-requires : goal.onward-via-requires
-onward-via-requires c = (refl, omega (arith, face_used c.args.cm.now c.args.used _ (sym (c.all_live.ensures _ refl) ∙ not-false _ c.if-not-all_live.false)))
+onward-via-requires c = (refl, omega (arith, face_used c.args.cm.now c.args.used _ (sym (c.all_live.ensures _ refl) ∙ c.if-not-all_live.false)))
 
 pub loop-last-smaller : goal.loop-last-smaller
 loop-last-smaller c = omega arith

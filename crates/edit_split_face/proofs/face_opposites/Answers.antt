@@ -1,0 +1,12 @@
+use Rattle.edit_split_face.proofs.Writes.{face_opposites_made}
+use Rattle.edit_split_face.proofs.face_opposites.Goals as goal
+
+pub returns : goal.returns
+returns c = let a = c.args in
+    face_opposites_made a.p a.n a.co.now
+    c.put_six.ensures
+    c.set_opposite_relationship.ensures
+    c.set_opposite_relationship-2.ensures
+    c.set_opposite_relationship-3.ensures
+    c.make_corners_opposite.ensures
+    c.make_corners_opposite-2.ensures
