@@ -27,6 +27,7 @@ mem_true d (x ∷ xs) e = by (eqb d x) refl e (λ h. mem_true d xs h)
     by false q h r = Memᴰ.tail (r h)
 
 pub mem_false : (d : ℕ) (l : List ℕ) → mem d l ≡ false → Memᴰ d l → ⊥
+mem_false d [] e x'' = elim x'' [ ]
 mem_false d (x ∷ xs) e (Memᴰ.head q) = true≢false (sym (rw (eq-eqb d x q) refl) ∙ e)
 mem_false d (x ∷ xs) e (Memᴰ.tail m) = by (eqb d x) e (λ h. mem_false d xs h m)
   where

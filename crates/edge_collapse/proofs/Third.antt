@@ -119,6 +119,7 @@ module _ (g : ℕ → ℕ) (D : ℕ) where
   miss x l e = rw (ne_eqb (g x) D e) (omega arith)
 
   mem_times : (b : ℕ) (l : List ℕ) → Memᴰ b l → g b ≡ D → 0 < times l
+  mem_times b [] x'' h = elim x'' [ ]
   mem_times b (x ∷ l) (mathlib.Core.List.Memᴰ.head e) h = omega (arith, hit x l (ap g (sym e) ∙ h))
   mem_times b (x ∷ l) (mathlib.Core.List.Memᴰ.tail m) h = go (mem_times b l m h) (ℕ_discrete (g x) D)
     where
@@ -136,6 +137,7 @@ module _ (g : ℕ → ℕ) (D : ℕ) where
 
   -- two places have the value
   pub twice_times : (a b : ℕ) (l : List ℕ) → Memᴰ a l → Memᴰ b l → b ≢ a → g a ≡ D → g b ≡ D → 1 < times l
+  twice_times a b [] x5 _ n p q = elim x5 [ ]
   twice_times a b (x ∷ l) (mathlib.Core.List.Memᴰ.head e) (mathlib.Core.List.Memᴰ.head f) n p q = absurd (n (f ∙ sym e))
   twice_times a b (x ∷ l) (mathlib.Core.List.Memᴰ.head e) (mathlib.Core.List.Memᴰ.tail m) n p q = omega (arith, hit x l (ap g (sym e) ∙ p), mem_times b l m q)
   twice_times a b (x ∷ l) (mathlib.Core.List.Memᴰ.tail k) (mathlib.Core.List.Memᴰ.head f) n p q = omega (arith, hit x l (ap g (sym f) ∙ q), mem_times a l k p)
