@@ -10,6 +10,7 @@ use lib.Dec.{eqb}
 use Rattle.edit_split_edge.specs.SplitEdge.{without}
 
 pub without_to : (a : ℕ) (cs : List ℕ) (d : ℕ) → Memᴰ d cs → d ≢ a → Memᴰ d (without a cs)
+without_to a [] d x'' n = elim x'' [ ]
 without_to a (c ∷ cs) d (Memᴰ.head e) n = go (eqb c a) refl
   where
     go : (b : Bool) → eqb c a ≡ b → Memᴰ d (cond b (without a cs) (c ∷ without a cs))
