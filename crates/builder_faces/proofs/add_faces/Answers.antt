@@ -34,7 +34,7 @@ pub bounds-faces-i-in-loop-i-2 : goal.bounds-faces-i-in-loop-i-2
 bounds-faces-i-in-loop-i-2 c = omega arith
 
 pub add_face-s-requires : goal.add_face-s-requires
-add_face-s-requires c = let k = c.loop-i.invariant in (omega arith, (omega (arith, k.few), (k.thirds, omega (arith, k.small))))
+add_face-s-requires c = let k = c.loop-i.invariant in record { room_bound = omega arith; n_le_room = omega (arith, k.few); n_value = k.thirds; skipped_bound = omega (arith, k.small) }
 
 pub returns-then-s-ne0 : goal.returns-then-s-ne0
 returns-then-s-ne0 c = let k = c.loop-i in let f = c.add_face-s in adding_stop _ _ _ _ _ _ _ _ _ k.i _ _ k.invariant _ _ _ _ _ _ f.ensures (omega arith) c.if-s-ne0.true

@@ -7,7 +7,7 @@ pub loop-v-init : goal.loop-v-init
 loop-v-init c = running_start _ _ _ _ _ _ _ _ _ _ _ c.requires.count_le_room
 
 pub one_vertex-w-requires : goal.one_vertex-w-requires
-one_vertex-w-requires c = let k = c.loop-v.invariant in (k.few, omega arith)
+one_vertex-w-requires c = let k = c.loop-v.invariant in record { u_le_room = k.few; room_bound = omega arith }
 
 pub returns-then-w-room : goal.returns-then-w-room
 returns-then-w-room c = running_full _ _ _ _ _ _ _ _ _ _ _ _ _ _ _ _ c.loop-v.invariant c.loop-v-test.true _ _ _ _ c.one_vertex-w.ensures c.if-w-room.true

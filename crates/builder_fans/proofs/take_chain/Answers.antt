@@ -10,7 +10,7 @@ pub returns-then-h-lt2 : goal.returns-then-h-lt2
 returns-then-h-lt2 c = taking_stop _ _ _ _ _ _ _ _ _ _ _ _ _ _ c.loop-rest.invariant c.if-h-lt2.true
 
 pub one_corner-w-requires : goal.one_corner-w-requires
-one_corner-w-requires c = let k = c.loop-rest.invariant in (k.few, omega arith)
+one_corner-w-requires c = let k = c.loop-rest.invariant in record { u_le_room = k.few; room_bound = omega arith }
 
 pub returns-then-w-room : goal.returns-then-w-room
 returns-then-w-room c = taking_full _ _ _ _ _ _ _ _ _ _ _ _ _ _ c.loop-rest.invariant c.loop-rest-test.true c.if-h-lt2.false _ _ _ _ c.one_corner-w.ensures c.if-w-room.true
