@@ -8,7 +8,25 @@ ghost use Rattle.words.specs.Words.{word_of, word_at, written, tabled, word_no, 
 ghost use Rattle.words.specs.Same.{every, same_word, same_number, holds_of, hold_numbers_of, one_unless};
 ghost use Rattle.words.specs.Tally.{upped, bumped};
 
+use std::io::Read;
 use table::{at, float_at, put};
+
+// ---- bytes from a file
+
+// Reads until buf is full, the input ends or a read fails: how many bytes it put at the start of buf.
+pub fn read_full<R: Read>(from: &mut R, buf: &mut [u8]) -> usize
+    ensures { result ≤ length buf.new }
+{
+    let mut done = 0;
+    while done < buf.len() {
+        let n = from.read(&mut buf[done..]).unwrap_or(0);
+        if n == 0 {
+            break;
+        }
+        done += n;
+    }
+    done
+}
 
 // ---- bytes to words
 
