@@ -6,55 +6,55 @@ ghost use Rattle.std.specs.Prelude.{◌≡◌, ◌≤◌, length};
 ghost use Rattle.vectors.specs.Places.{place_of};
 
 use flag::both;
-use libc::STDOUT_FILENO;
+use std::fs::File;
+use std::io::Read;
+use std::{env, io};
 use table::{Counts, at};
 use vectors_changes::Rooms;
-use words::{bump, first, least, one_unless, past};
+use words::{bump, first, least, one_unless, past, read_full};
 
 // ---- the list: 25 buffers of 65,536 bytes hold more than the largest
 
 // The next buffer of the file, as words from entry n on: how many.
-fn load_some(fd: i32, n: u32, words: &mut [u32]) -> u32
+fn load_some<R: Read>(from: &mut R, n: u32, words: &mut [u32]) -> u32
     ensures { result ≤ 16384 }
 {
-    let mut bytes = io::large_buffer();
-    let got = io::read_full(fd, &mut bytes);
+    let mut bytes = [0u8; 65536];
+    let got = read_full(from, &mut bytes);
     words::decode(&bytes[..got], n, words);
     (got / 4) as u32
 }
 
-fn load(fd: i32, words: &mut [u32]) -> u32
+fn load<R: Read>(from: &mut R, words: &mut [u32]) -> u32
     ensures { result ≤ 409600 }
 {
     let mut n: u32 = 0;
-    let mut turn: u32 = 0;
-    while turn < 25 {
-        n += load_some(fd, n, words);
-        turn += 1;
+    for _turn in 0u32..25 {
+        n += load_some(from, n, words);
     }
     n
 }
 
 // ---- what is said
 
-fn say(what: &[u8], n: u32) {
-    io::write_all(STDOUT_FILENO, what);
-    io::print_decimal(STDOUT_FILENO, n as u64);
+fn say<P: Print>(rt: &P, what: &[u8], n: u32) {
+    let _ = rt.write_all(what);
+    let _ = rt.print(n);
 }
 
-fn line(what: &[u8], n: u32) {
-    say(what, n);
-    io::write_all(STDOUT_FILENO, b"\n");
+fn line<P: Print>(rt: &P, what: &[u8], n: u32) {
+    say(rt, what, n);
+    let _ = rt.write_all(b"\n");
 }
 
 // A record that came out otherwise, or that the end of the file cuts off, is named and counted.
-fn told(wrong: u32, whole: bool, k: u32, op: u32) -> u32
+fn told<P: Print>(rt: &P, wrong: u32, whole: bool, k: u32, op: u32) -> u32
     ensures { result ≤ 1 }
 {
     let bad = one_unless(both(wrong == 0, whole));
     if bad != 0 {
-        say(b"wrong: record ", k);
-        line(b", op ", op);
+        say(rt, b"wrong: record ", k);
+        line(rt, b", op ", op);
     }
     bad
 }
@@ -75,7 +75,8 @@ fn no_rooms() -> Rooms
 }
 
 // How many records are wrong. The records start after the 1,024 bytes of text; each takes at least two words.
-fn play(
+fn play<P: Print>(
+    rt: &P,
     words: &[u32],
     cv: &mut [u32],
     co: &mut [u32],
@@ -106,7 +107,7 @@ fn play(
             op, rooms, cv, co, cm, vc, vm, vp, counts, w, numbers, list,
         );
         counts = left.counts;
-        bad += told(left.wrong, w.len() == n, k, op);
+        bad += told(rt, left.wrong, w.len() == n, k, op);
         k += 1;
         from += 2 + n;
     }
@@ -172,37 +173,37 @@ fn tally(words: &[u32], ops: &mut [u32], answers: &mut [u32])
     }
 }
 
-fn say_ops(ops: &[u32]) {
-    line(b"rooms: ", at(ops, 1, 0));
-    line(b"counts: ", at(ops, 2, 0));
-    line(b"put: ", at(ops, 3, 0));
-    line(b"build: ", at(ops, 4, 0));
-    line(b"check: ", at(ops, 5, 0));
-    line(b"run: ", at(ops, 6, 0));
-    line(b"ring: ", at(ops, 7, 0));
-    line(b"move: ", at(ops, 8, 0));
-    line(b"slots: ", at(ops, 9, 0));
+fn say_ops<P: Print>(rt: &P, ops: &[u32]) {
+    line(rt, b"rooms: ", at(ops, 1, 0));
+    line(rt, b"counts: ", at(ops, 2, 0));
+    line(rt, b"put: ", at(ops, 3, 0));
+    line(rt, b"build: ", at(ops, 4, 0));
+    line(rt, b"check: ", at(ops, 5, 0));
+    line(rt, b"run: ", at(ops, 6, 0));
+    line(rt, b"ring: ", at(ops, 7, 0));
+    line(rt, b"move: ", at(ops, 8, 0));
+    line(rt, b"slots: ", at(ops, 9, 0));
 }
 
-fn say_answers(answers: &[u32]) {
+fn say_answers<P: Print>(rt: &P, answers: &[u32]) {
     let mut k: u32 = 0;
     while k < 17 {
-        say(b"answer ", k);
-        line(b": ", at(answers, k as usize, 0));
+        say(rt, b"answer ", k);
+        line(rt, b": ", at(answers, k as usize, 0));
         k += 1;
     }
 }
 
-fn say_tallies(words: &[u32]) {
+fn say_tallies<P: Print>(rt: &P, words: &[u32]) {
     let mut ops = [0u32; 10];
     let mut answers = [0u32; 17];
     tally(words, &mut ops, &mut answers);
-    say_ops(&ops);
-    say_answers(&answers);
+    say_ops(rt, &ops);
+    say_answers(rt, &answers);
 }
 
 // The parts at their largest, the numbers of the longest build, and the longest list.
-fn replay_all(words: &[u32]) -> u32
+fn replay_all<P: Print>(rt: &P, words: &[u32]) -> u32
     ensures { result ≤ 409600 }
 {
     let mut cv = [0u32; 196608];
@@ -214,6 +215,7 @@ fn replay_all(words: &[u32]) -> u32
     let mut numbers = [0.0f32; 4096];
     let mut list = [0u32; 4096];
     play(
+        rt,
         words,
         &mut cv,
         &mut co,
@@ -227,29 +229,29 @@ fn replay_all(words: &[u32]) -> u32
 }
 
 // The file is read, replayed and counted.
-fn replay_file(fd: i32, words: &mut [u32])
+fn replay_file<P: Print, R: Read>(rt: &P, from: &mut R, words: &mut [u32])
     ensures { length words.new ≡ length words.old }
 {
-    let n = load(fd, words) as usize;
+    let n = load(from, words) as usize;
     let list = first(words, n);
-    let bad = replay_all(list);
-    say_tallies(list);
-    line(b"wrong: ", bad);
+    let bad = replay_all(rt, list);
+    say_tallies(rt, list);
+    line(rt, b"wrong: ", bad);
 }
 
-fn main() {
-    let mut path = io::buffer();
-    let length = os::arg(1, &mut path);
-    if os::errno() != 0 {
-        os::fail(b"path");
-        return;
-    }
-    let fd = os::open_read(&path[..length]);
-    if fd < 0 {
-        os::fail(&path[..length]);
-        return;
-    }
+fn main(rt: HostRuntime) -> io::Result<()> {
+    let Some(path) = env::args(&rt)?.nth(1) else {
+        let _ = rt.eprintln("path: Invalid argument");
+        return Ok(());
+    };
+    let mut file = match File::open(&rt, path.as_str()) {
+        Ok(file) => file,
+        Err(e) => {
+            eprintln!(rt; "{path}: {e}")?;
+            return Ok(());
+        }
+    };
     let mut words = [0u32; 409600];
-    replay_file(fd, &mut words);
-    libc::close(fd);
+    replay_file(&rt, &mut file, &mut words);
+    Ok(())
 }
