@@ -10,7 +10,7 @@ fn main() {
     };
     let archive = folder.join("libstrandomir.a");
     if !archive.is_file() {
-        panic!("{} is not there: run `rt staticlib strandomir`, or set STRANDOMIR_LIB_DIR", archive.display());
+        panic!("{} is not there: run tools/build archive, or set STRANDOMIR_LIB_DIR", archive.display());
     }
     println!("cargo:rerun-if-changed={}", archive.display());
     println!("cargo:rustc-link-search=native={}", folder.display());

@@ -1,5 +1,5 @@
 -- Each test read as its rule, and back: a slot passes its test exactly if it keeps the rule. Assumes nothing.
-use Prim.Native.Nat.{ℕ, ◌-◌, ◌%◌, ◌≤◌}
+use Prim.Native.Nat.{ℕ, ◌%◌, ◌≤◌}
 use mathlib.Core.Path.{◌≡◌}
 use mathlib.Core.Logic.{◌≢◌}
 use mathlib.Core.Bool.{true, ◌&&◌, not}

@@ -1,7 +1,7 @@
 -- A collapse keeps vertices minus edges plus faces. Assumes nothing.
 use mathlib.Core.Path.{◌≡◌, refl, ap, sym, ◌∙◌}
 use mathlib.Core.Logic.{◌≢◌, Ne-symm, ◌⊎◌, inl, inr}
-use Prim.Native.Nat.{ℕ, ◌+◌, ◌-◌, ◌*◌, ◌<◌, ◌%◌, ◌/◌}
+use Prim.Native.Nat.{ℕ, ◌+◌, ◌*◌, ◌<◌, ◌%◌, ◌/◌}
 use native.Mathlib.Omega.{arith}
 use Rattle.corner.specs.Corner.{next}
 use Rattle.corner.proofs.Turns.{next_face, InFace, itself, after, before, in_face}
@@ -21,7 +21,7 @@ use Rattle.table.specs.Euler.{SameEuler}
 use Rattle.edit_plans.specs.Plans.{around}
 use Rattle.edit_collapse.specs.Collapse.{collapse_vertices, collapse_opposites, collapse_marks, collapse_corners, collapse_edge}
 use Rattle.fan.proofs.Tables.{table_linked}
-use Rattle.edit_keeps.proofs.CollapseTable.{u, keep, kept, gone, the_merge, stays, stayed, Safe, about, winged_left, either_left, merge_site, co', cv', cm', vc', vm'}
+use Rattle.edit_keeps.proofs.CollapseTable.{u, the_merge, stays, stayed, Safe, about, winged_left, either_left, merge_site, co', cv', cm', vc', vm'}
 
 module _ {live live' : ℕ → Type 0} {opposite opposite' vertex vertex' : ℕ → ℕ} {c1 c2 c0 c4 c5 c3 o2 o0 o5 o3 : ℕ}
     (L : Linked live opposite vertex) (B : Site live opposite c1 c2 c0 c4 c5 c3) (A : MergeSite live opposite vertex c1 c2 c0 c4 c5 c3 o2 o0 o5 o3)

@@ -19,7 +19,7 @@ use Rattle.vertex.specs.Point.{finite_point}
 use Rattle.table.specs.Table.{Table, table, Live, LiveVertex, opposite, vertex, corner, Shaped}
 use Rattle.table.specs.Rules.{WellFormed}
 use Rattle.table.specs.Slots.{with_pair, point_at, with_point}
-use Rattle.fan.proofs.Tables.{table_linked, table_fan, fan_table, inside}
+use Rattle.fan.proofs.Tables.{table_linked, table_fan, fan_table}
 use Rattle.edit_keeps.proofs.Writes.{paired_seen, push6, push6_seen, push6_old, six_push6}
 use Rattle.edit_keeps.proofs.SplitInner.{in_six}
 use Rattle.edit_keeps.proofs.NewFaces.{grow, fresh, shrink, corner_marks_lem, face_marks_lem, next6, next7, next9, next10}

@@ -4,7 +4,7 @@ use lib.Ieee.{Float}
 use mathlib.Core.Path.{◌≡◌, refl, ap, sym, ◌∙◌, subst}
 use mathlib.Core.Logic.{◌≢◌, ◌⊎◌, inl, inr}
 use mathlib.Core.List.{List, Memᴰ}
-use Prim.Native.Nat.{ℕ, ◌+◌, ◌-◌, ◌≤◌, ◌<◌}
+use Prim.Native.Nat.{ℕ, ◌+◌, ◌≤◌, ◌<◌}
 use native.Mathlib.Omega.{arith}
 use native.Mathlib.Decide.{ℕ_discrete}
 use lib.ListN.{length, get_or, set, length-set}
@@ -26,7 +26,7 @@ use Rattle.vertex.specs.Point.{finite_point}
 use Rattle.table.specs.Table.{Table, table, Live, LiveVertex, opposite, vertex, corner, Shaped}
 use Rattle.table.specs.Rules.{WellFormed}
 use Rattle.table.specs.Slots.{with_pair, point_at}
-use Rattle.fan.proofs.Tables.{table_linked, table_fan, fan_table, inside}
+use Rattle.fan.proofs.Tables.{table_linked, table_fan, fan_table}
 use Rattle.edit_keeps.proofs.Writes.{paired_seen, push6, push6_seen, push6_old, six_push6}
 use Rattle.edit_keeps.proofs.NewFaces.{grow, fresh, shrink, corner_marks_lem, face_marks_lem, next6, next7, next9, next10}
 use Rattle.edit_keeps.proofs.NewVertex.{LiveV1, old_vertex, new_one, was_vertex, vertex_marks_lem, split_finite}

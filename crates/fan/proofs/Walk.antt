@@ -1,7 +1,7 @@
 -- A walk by a partial injective step on finitely many numbers: it closes or stops, without repetition. Assumes nothing.
 use mathlib.Core.Path.{◌≡◌, sym}
 use mathlib.Core.Logic.{◌≢◌, ◌⊎◌, inl, inr}
-use Prim.Native.Nat.{ℕ, zero, suc, ◌-◌, ◌≤◌, ◌<◌}
+use Prim.Native.Nat.{ℕ, zero, suc, ◌≤◌, ◌<◌}
 use native.Mathlib.Omega.{arith}
 use native.Mathlib.Decide.{ℕ_discrete}
 use Rattle.fan.proofs.Pigeon.{LeastBelow, least, Clash, pigeon}

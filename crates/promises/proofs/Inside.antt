@@ -1,5 +1,5 @@
 -- No walk inside a run is tangled, and no index is out of range: each table of a run is well-formed. Assumes nothing.
-use Prim.Native.Nat.{ℕ, ◌+◌, ◌/◌, ◌≤◌}
+use Prim.Native.Nat.{ℕ, ◌/◌}
 use mathlib.Core.Path.{◌≡◌, refl, sym, ap, ◌∙◌}
 use mathlib.Core.Bool.{Bool, true, false, cond, false≢true}
 use mathlib.Core.List.{List}
@@ -11,7 +11,7 @@ use lib.ListN.{length}
 use Rattle.corner.specs.Corner.{absent, next, previous, first_corner}
 use Rattle.vertex.specs.declared.Point.{Point}
 use Rattle.table.specs.Slots.{opposite_at}
-use Rattle.table.specs.Table.{Table, Shaped, shaped, corner_room, vertex_room, vertex, opposite, corner, Live}
+use Rattle.table.specs.Table.{Table, Shaped, shaped, vertex, opposite, corner, Live}
 use Rattle.table.specs.Rules.{WellFormed}
 use Rattle.fan.proofs.Fan.{Linked, face_previous, swing_l, swing_r}
 use Rattle.fan.proofs.Walk.{it, Stop, border, closes, Walk}
@@ -24,7 +24,7 @@ use Rattle.traversal_lists.specs.declared.Kind.TheVariants.{Vertices}
 use Rattle.traversal_visits.specs.Walk.{walk, visits}
 use Rattle.traversal_lists.specs.Lists.{entry, entries}
 use Rattle.traversal.proofs.Sound.{never_15, corner_calm, corner_healthy, Healthy, ring, fan}
-use Rattle.edge_collapse.specs.EdgeCollapse.{meets_border, neighbours, affects_boundary}
+use Rattle.edge_collapse.specs.EdgeCollapse.{meets_border, neighbours}
 use Rattle.edge_collapse.proofs.Paper.{inner}
 use Rattle.edit_plans.specs.Plans.{around, triangle}
 use Rattle.edit_keeps.specs.Keeps.{Kept}
@@ -34,7 +34,7 @@ use Rattle.checker.proofs.Judge.{verdict_sound}
 use Rattle.script_command.specs.declared.Edit.{Edit}
 use Rattle.script_command.specs.declared.Edit.TheVariants.{Collapse, Flip, SplitEdge, SplitFace, Unknown}
 use Rattle.script_command.specs.Decode.{command_at}
-use Rattle.script_answers.specs.Answers.{collapse_answer, flip_answer, split_edge_answer, split_face_answer, answer}
+use Rattle.script_answers.specs.Answers.{answer}
 use Rattle.script_answers.specs.Passed.{EndFits, CollapsePassed, SplitEdgePassed}
 use Rattle.script_answers.proofs.Passed.{collapse_passed, flip_passed, split_edge_passed, split_face_passed}
 use Rattle.script_command.specs.Checks.{corners_for, fits}

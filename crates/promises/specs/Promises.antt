@@ -1,12 +1,12 @@
 -- What is promised of a script on a well-formed table, over the definitions of the commands. The theorems are in
 -- proofs/Promises.antt, proofs/Words.antt and proofs/Inside.antt.
-use Rattle.std.specs.Prelude.{ℕ, ◌+◌, ◌≤◌, ◌<◌, ◌≡◌, false, ◌≢◌, Float, length, get_or}
+use Rattle.std.specs.Prelude.{ℕ, ◌≤◌, ◌<◌, ◌≡◌, false, ◌≢◌, Float, length, get_or}
 use mathlib.Core.List.{List, Memᴰ}
 use Rattle.corner.specs.Corner.{absent, next, previous, first_corner}
 use Rattle.corner.specs.declared.Corner.{Corner}
 use Rattle.corner.specs.declared.Face.{Face}
 use Rattle.vertex.specs.declared.Point.{Point}
-use Rattle.table.specs.Table.{Table, Shaped, corner_room, vertex_room, vertex, opposite, corner, Live}
+use Rattle.table.specs.Table.{Table, Shaped, vertex, opposite, corner, Live}
 use Rattle.table.specs.Rules.{WellFormed}
 use Rattle.ring.specs.Ring.{ring}
 use Rattle.traversal_lists.specs.declared.Kind.{Kind}

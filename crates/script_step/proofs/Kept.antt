@@ -1,19 +1,17 @@
 -- A command that answers 0 has passed its checks, so its effect keeps a well-formed table. Assumes nothing.
-use Prim.Native.Nat.{ℕ}
 use mathlib.Core.Path.{◌≡◌, refl}
 use mathlib.Core.Bool.{cond}
 use native.Mathlib.Omega.{arith}
 use native.Mathlib.Decide.{ℕ_discrete}
 use borrow.Author.Tests.{eq-eqb, ne_eqb}
 use lib.Dec.{eqb}
-use Rattle.vertex.specs.declared.Point.{Point}
 use Rattle.table.specs.Table.{Table, Shaped}
 use Rattle.table.specs.Rules.{WellFormed}
 use Rattle.edit_keeps.specs.Keeps.{Kept}
 use Rattle.edit_keeps.proofs.Kept.{flip_kept, collapse_kept, face_kept, edge_kept}
 use Rattle.script_command.specs.declared.Edit.{Edit}
 use Rattle.script_command.specs.declared.Edit.TheVariants.{Collapse, Flip, SplitEdge, SplitFace, Unknown}
-use Rattle.script_answers.specs.Answers.{collapse_answer, flip_answer, split_edge_answer, split_face_answer, answer}
+use Rattle.script_answers.specs.Answers.{answer}
 use Rattle.script_answers.proofs.Passed.{collapse_passed, flip_passed, split_edge_passed, split_face_passed}
 use Rattle.script_step.specs.Step.{effect, step}
 

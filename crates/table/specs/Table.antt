@@ -1,5 +1,5 @@
 -- Document 01, "What a table holds".
-use Rattle.std.specs.Prelude.{ℕ, ◌+◌, ◌*◌, ◌<◌, ◌≤◌, Bool, ◌&&◌, ◌≡◌, List, ◌++◌, eqb, ltb, leb, Float, length, replicate}
+use Rattle.std.specs.Prelude.{ℕ, ◌*◌, ◌<◌, ◌≤◌, Bool, ◌&&◌, ◌≡◌, List, ◌++◌, eqb, ltb, leb, Float, length, replicate}
 use Rattle.corner.specs.Corner.{absent}
 use Rattle.vertex.specs.declared.Point.{Point}
 use Rattle.table.specs.Slots.{vertex_at, opposite_at, corner_at, mark_at, nought, point_at}

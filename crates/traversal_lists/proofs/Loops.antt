@@ -9,7 +9,6 @@ use lib.ListN.{length, set, length-set}
 use lib.Seq.{sets}
 use Rattle.corner.specs.Corner.{turn}
 use Rattle.table.specs.Slots.{opposite_at}
-use Rattle.traversal_visits.specs.Walk.{more}
 use Rattle.traversal_lists.specs.Reached.{reached, Inside}
 
 -- writing to l₀ from `first` on, from the crossing to o₀: l has the entries up to i, and the next crossing is to o. Whatever their number n,

@@ -1,4 +1,3 @@
-use Prim.Native.Nat.{◌-◌}
 use native.Mathlib.Omega.{arith}
 use Rattle.builder_edges.proofs.Searching.{seeking_start, seeking_on, seeking_end}
 use Rattle.builder_edges.proofs.find_edges.Goals as goal

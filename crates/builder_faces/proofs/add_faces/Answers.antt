@@ -1,4 +1,3 @@
-use Prim.Native.Nat.{◌-◌}
 use native.Mathlib.Omega.{arith}
 use Rattle.builder_faces.proofs.Adding.{adding_start, adding_stop, adding_on, adding_end}
 use Rattle.builder_faces.proofs.add_faces.Goals as goal

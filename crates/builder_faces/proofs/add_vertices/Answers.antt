@@ -1,5 +1,4 @@
 use mathlib.Core.Path.{refl}
-use Prim.Native.Nat.{◌-◌}
 use native.Mathlib.Omega.{arith}
 use Rattle.builder_faces.proofs.Laying.{laying_start, laying_on, laying_end}
 use Rattle.builder_faces.proofs.add_vertices.Goals as goal

@@ -1,5 +1,4 @@
 use mathlib.Core.Path.{refl}
-use Prim.Native.Nat.{◌-◌}
 use native.Mathlib.Omega.{arith}
 use Rattle.builder_faces.proofs.Laying.{finite_not, finite_on, finite_end}
 use Rattle.builder_faces.proofs.all_finite.Goals as goal

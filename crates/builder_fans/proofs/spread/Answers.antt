@@ -1,4 +1,3 @@
-use Prim.Native.Nat.{◌-◌}
 use native.Mathlib.Omega.{arith}
 use Rattle.builder_fans.proofs.Runs.{running_start, running_full, running_on, running_end}
 use Rattle.builder_fans.proofs.spread.Goals as goal

@@ -1,5 +1,4 @@
 use mathlib.Core.Path.{refl}
-use Prim.Native.Nat.{◌-◌}
 use native.Mathlib.Omega.{arith}
 use Rattle.builder_fans.proofs.Passes.{threading_on, threading_end}
 use Rattle.builder_fans.proofs.thread_left.Goals as goal

@@ -1,4 +1,3 @@
-use Prim.Native.Nat.{◌-◌}
 use Rattle.builder_fans.proofs.Passes.{Threading}
 use Rattle.builder_fans.proofs.thread_left.Given as goal
 

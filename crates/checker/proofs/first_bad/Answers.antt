@@ -1,8 +1,6 @@
 -- `checker::first_bad` meets its contract: every slot before i passes.
-use Prim.Native.Nat.{◌-◌}
 use mathlib.Core.Path.{sym, ◌∙◌}
 use native.Mathlib.Omega.{arith}
-use Rattle.checker_rules.specs.Tests.{holds}
 use Rattle.checker.proofs.First.{passed_start, passed_more, passed_bad, passed_all}
 use Rattle.checker.proofs.first_bad.Goals as goal
 

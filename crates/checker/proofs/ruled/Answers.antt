@@ -1,5 +1,4 @@
 -- `checker::ruled` meets its contract: every test before k passes everywhere, those too that the quick pass has settled.
-use Prim.Native.Nat.{◌-◌}
 use native.Mathlib.Omega.{arith}
 use Rattle.table.specs.Table.{table}
 use Rattle.checker.proofs.First.{passed_more}

@@ -1,7 +1,6 @@
 -- `checker_quick::faces_fit` meets its contract: every corner before f passes.
 use Rattle.checker_quick.specs.Fits.{Fits}
 use Rattle.checker_quick.proofs.Quick.{faces_more}
-use Prim.Native.Nat.{◌-◌}
 use native.Mathlib.Omega.{arith}
 use mathlib.Core.Bool.{false≢true}
 use Rattle.checker_quick.proofs.faces_fit.Goals as goal

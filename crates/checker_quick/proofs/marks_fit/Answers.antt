@@ -1,9 +1,7 @@
 -- `checker_quick::marks_fit` meets its contract: every mark before v passes.
-use Rattle.checker_rules.specs.Tests.{mark_test}
 use mathlib.Core.Path.{sym, ◌∙◌}
-use Prim.Native.Nat.{◌-◌}
 use native.Mathlib.Omega.{arith}
-use mathlib.Core.Bool.{true, false≢true}
+use mathlib.Core.Bool.{false≢true}
 use borrow.Author.Count.{below_none, below_more}
 use Rattle.checker_quick.proofs.marks_fit.Goals as goal
 

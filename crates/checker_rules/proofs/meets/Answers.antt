@@ -1,7 +1,6 @@
 -- `checker_rules::meets` meets its contract: the walks from where the loop stands, with the fuel that is left, end as the walks from c do.
 use Rattle.checker_rules.proofs.Turns.{near_out, turn_left, turn_right, turn_more}
 use mathlib.Core.Path.{refl, sym, ◌∙◌}
-use mathlib.Core.Bool.{true, false}
 use native.Mathlib.Omega.{arith}
 use Rattle.checker_rules.proofs.meets.Goals as goal
 

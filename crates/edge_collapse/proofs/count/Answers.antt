@@ -1,4 +1,3 @@
-use Prim.Native.Nat.{◌-◌}
 use Rattle.edge_collapse.proofs.Fronts.{tallied_start, tallied_more, tallied_end, times_front}
 use mathlib.Core.Path.{refl}
 use native.Mathlib.Omega.{arith}

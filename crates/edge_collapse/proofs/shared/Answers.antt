@@ -2,7 +2,7 @@ use Rattle.edge_collapse.proofs.Fronts.{tallied_start, tallied_more, tallied_end
 use lib.Dec.{ltb}
 use lib.ListN.{take}
 use mathlib.Core.Path.{ap}
-use Prim.Native.Nat.{ℕ, ◌-◌}
+use Prim.Native.Nat.{ℕ}
 use native.Mathlib.Omega.{arith}
 use Rattle.edge_collapse.proofs.shared.Goals as goal
 

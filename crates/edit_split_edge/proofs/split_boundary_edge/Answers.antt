@@ -1,5 +1,4 @@
 use Rattle.edit_split_edge.proofs.Made.{boundary_made}
-use native.Mathlib.Omega.{arith}
 use Rattle.edit_split_edge.proofs.split_boundary_edge.Goals as goal
 
 pub returns : goal.returns

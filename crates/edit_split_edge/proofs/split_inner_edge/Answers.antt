@@ -1,5 +1,4 @@
 use Rattle.edit_split_edge.proofs.Made.{inner_made}
-use native.Mathlib.Omega.{arith}
 use Rattle.edit_split_edge.proofs.split_inner_edge.Goals as goal
 
 pub put_six-requires : goal.put_six-requires

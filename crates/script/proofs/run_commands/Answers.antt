@@ -1,7 +1,6 @@
 use Rattle.script.proofs.Loop.{running_start, running_more, running_end, kept_good}
 use Rattle.table.specs.Table.{table}
 use native.Mathlib.Omega.{arith}
-use Prim.Native.Nat.{◌-◌}
 use Rattle.script.proofs.run_commands.Goals as goal
 
 pub loop-i-init : goal.loop-i-init

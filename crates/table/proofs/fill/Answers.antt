@@ -1,6 +1,5 @@
 use Rattle.table.proofs.Lists.{filling_start, filling_on, filling_end}
 use native.Mathlib.Omega.{arith}
-use Prim.Native.Nat.{◌-◌}
 use Rattle.table.proofs.fill.Goals as goal
 
 pub loop-i-init : goal.loop-i-init

@@ -2,7 +2,6 @@ use Rattle.table.specs.Slots.{nought}
 use lib.Ieee.{of_bits, binary32, nan_bits}
 use Rattle.table.proofs.Lists.{filling_start, filling_on, filling_end}
 use native.Mathlib.Omega.{arith}
-use Prim.Native.Nat.{◌-◌}
 use Rattle.table.proofs.fill_nought.Goals as goal
 
 pub float_from_bits-zero : goal.float_from_bits-zero

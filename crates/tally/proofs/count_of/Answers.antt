@@ -1,8 +1,6 @@
 -- `tally::count_of` meets its contract: what was counted so far is the count below i.
-use Prim.Native.Nat.{◌-◌}
 use native.Mathlib.Omega.{arith}
 use Rattle.tally.proofs.Counting.{counted_start, counted_more, counted_all}
-use Rattle.tally.specs.Tally.{passes}
 use Rattle.tally.proofs.count_of.Goals as goal
 
 pub loop-i-init : goal.loop-i-init

@@ -1,7 +1,5 @@
 -- `write_side` meets its contract. Assumes nothing.
 use Rattle.traversal_lists.proofs.Loops.{writing_start, writing_stop, writing_here, writing_via, writing_more}
-use Rattle.traversal_lists.specs.Lists.{entry}
-use Prim.Native.Nat.{◌-◌}
 use mathlib.Core.Path.{refl}
 use native.Mathlib.Omega.{arith}
 use Rattle.traversal_lists.proofs.write_side.Goals as goal

@@ -1,6 +1,6 @@
 -- `copy16` meets its contract. Assumes nothing.
 use Rattle.traversal_short.proofs.Short.{copied}
-use Prim.Native.Nat.{ℕ, ◌-◌}
+use Prim.Native.Nat.{ℕ}
 use mathlib.Core.Path.{◌≡◌, refl}
 use lib.ListN.{length-set}
 use native.Mathlib.Omega.{arith}

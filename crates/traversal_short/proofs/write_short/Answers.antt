@@ -1,7 +1,6 @@
 -- `write_short` meets its contract. Assumes nothing.
 use Rattle.traversal_short.proofs.Short.{short_start, short_none, short_more, short_closed}
 use Rattle.traversal_visits.proofs.Steps.{face_used, face_turn}
-use Prim.Native.Nat.{◌-◌}
 use mathlib.Core.Path.{refl, sym, ◌∙◌}
 use mathlib.Core.Bool.{false}
 use lib.ListN.{length-set}

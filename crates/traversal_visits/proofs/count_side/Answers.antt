@@ -5,7 +5,6 @@ use Rattle.traversal_visits.specs.Walk.{last_crossed}
 use Rattle.corner.specs.Corner.{turn}
 use mathlib.Core.Path.{refl, sym, ap, ◌∙◌}
 use mathlib.Core.Bool.{not}
-use borrow.Author.Tests.{not-false}
 use native.Mathlib.Omega.{arith}
 use Rattle.traversal_visits.proofs.count_side.Goals as goal
 

@@ -1,6 +1,5 @@
 use mathlib.Core.Path.{refl, ◌∙◌}
 use native.Mathlib.Omega.{arith}
-use Prim.Native.Nat.{◌-◌}
 use Rattle.vectors.proofs.note_commands.Goals as goal
 
 pub loop-k-init : goal.loop-k-init

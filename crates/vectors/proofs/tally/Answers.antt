@@ -1,6 +1,5 @@
 use mathlib.Core.Path.{refl}
 use native.Mathlib.Omega.{arith}
-use Prim.Native.Nat.{◌-◌}
 use Rattle.vectors.proofs.tally.Goals as goal
 
 pub loop-from-init : goal.loop-from-init

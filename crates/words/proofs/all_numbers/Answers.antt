@@ -1,7 +1,5 @@
 use Rattle.words.proofs.Loops.{every_none, every_more, every_all, every_fails}
 use native.Mathlib.Omega.{arith}
-use Prim.Native.Nat.{◌-◌}
-use mathlib.Core.Bool.{true}
 use mathlib.Core.Path.{sym, ◌∙◌}
 use Rattle.words.proofs.all_numbers.Goals as goal
 

@@ -2,7 +2,6 @@ use Rattle.words.proofs.Loops.{written_none, written_more, written_length, writt
 use Rattle.words.specs.Words.{word_no}
 use lib.ListN.{length}
 use native.Mathlib.Omega.{arith}
-use Prim.Native.Nat.{◌-◌}
 use mathlib.Core.Path.{refl, ap, ◌∙◌}
 use Rattle.words.proofs.decode.Goals as goal
 

@@ -2,7 +2,6 @@ use Rattle.words.proofs.Loops.{tabling_start, tabling_on, tabling_end}
 use Rattle.words.specs.Words.{number_no}
 use native.Mathlib.Omega.{arith}
 use mathlib.Core.Path.{refl}
-use Prim.Native.Nat.{◌-◌}
 use Rattle.words.proofs.put_numbers.Goals as goal
 
 pub loop-k-init : goal.loop-k-init
