@@ -86,6 +86,7 @@ fn write_short_as(
 
 // Writes a closed ring of at most 16 corners in one walk: how many they are. 0 where it is no such ring, or the list is shorter: what the
 // list had is held meanwhile, and put back then.
+#[tactic(auto, using(crate::proofs::Short::tried_back, crate::proofs::Short::tried_done))]
 fn by_one_walk(
     kind: Kind,
     cv: &[u32],
