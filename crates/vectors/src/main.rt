@@ -247,7 +247,7 @@ fn main(rt: HostRuntime) -> io::Result<()> {
     let mut file = match File::open(&rt, path.as_str()) {
         Ok(file) => file,
         Err(e) => {
-            eprintln!(rt; "{path}: {e}")?;
+            let _ = eprintln!(rt; "{path}: {e}");
             return Ok(());
         }
     };
