@@ -1,4 +1,5 @@
-# The names of the base of November 2026 as they are now: sed -E -f docs/renamed.sed FILE. For text that was written over the older crates.
+# The names of the base of November 2026 as they were after it, in the spelling before the port (PORT.md): sed -E -f docs/renamed.sed FILE.
+# For text that was written over the older crates; the kit's port.py and tools/spell.py then bring it to today's spelling.
 # Crates. A name of a crate is followed by a dot (an import of another crate), by a middle dot (its own) or by :: (a call).
 s/Rattle·answers(·specs\.specs|\.specs)\.Step\b/Rattle·script_step.specs.Step/g
 s/Rattle·answers(·proofs\.proofs|\.proofs)\.Passed\.\{(step-kept|effect-kept)\}/Rattle·script_step.proofs.Kept.{\2}/g
