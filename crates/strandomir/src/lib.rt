@@ -1,5 +1,6 @@
-// The public face: every entry point, in C's terms; the archive `strandomir_c` exports them. Each takes any bytes, and none has a `requires`; what it answers and leaves is the
-// contract of the function that it calls, in C's terms. include/strandomir.h says the same for a caller in C.
+// The public face: every entry point, in C's terms; the archive `strandomir_c` exports them. Each takes any bytes, and none has a
+// `requires`; what it answers and leaves is the contract of the function that it calls. include/strandomir.h says the same for a caller
+// in C.
 //
 // The parts of a table: the corners' vertices, opposites and marks (cv, co, cm), the vertices' corners, marks and points (vc, vm, vp). The
 // counts, a corner and a vertex go as numbers: C knows no `Counts`, `Corner` or `Vertex`.
