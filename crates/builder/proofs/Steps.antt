@@ -1,6 +1,6 @@
 -- The steps of a call, put together to the build. Assumes nothing.
 use mathlib.Core.Path.{◌≡◌, refl, ap, sym, ◌∙◌, subst}
-use mathlib.Core.Bool.{Bool, true, false, cond, not}
+use mathlib.Core.Bool.{Bool, true, false, cond, not, false≢true, true≢false}
 use mathlib.Core.List.{List, ◌++◌}
 use Prim.Native.Nat.{ℕ, zero, suc, ◌+◌, ◌-◌, ◌*◌, ◌≤◌, ◌<◌, ◌%◌, ◌/◌}
 use native.Mathlib.Omega.{arith}
@@ -10,90 +10,130 @@ use lib.Dec.{ltb}
 use lib.Ieee.{Float}
 use lib.ListN.{length, get_or, drop, replicate, length-replicate}
 use lib.Seq.{sets, sets-eq}
+use Rattle.std.proofs.Common.{Result, Ok, Err}
+use Rattle.std.specs.Result.{is_err}
+use Rattle.refusal.specs.declared.Refusal.{Refusal}
+use Rattle.refusal.specs.Refusal.{number_of, answer_of}
 use Rattle.corner.specs.Corner.{absent}
 use Rattle.table.specs.Slots.{nought}
-use Rattle.table.specs.Table.{Table, table, blank, shaped_by, Shaped}
+use Rattle.table.specs.Table.{Table, table, blank, corner_room, vertex_room, with_corner_mark, shaped, Shaped}
 use Rattle.table.proofs.Shape.{shaped_true}
-use Rattle.table.specs.declared.Counts.{Counts}
 use Rattle.fan.proofs.Fan.{Linked}
-use Rattle.ring.specs.Ring.{ring}
 use Rattle.ring.proofs.Exact.{ring_exact}
-use Rattle.builder_build.specs.Build.{SoFar, Course, go, faces, Shared, vertices, BuildOutcome, built, refused_build, start, laid, all_finite, isolated, done, spread, finish, build}
-use Rattle.builder_build.specs.Ready.{Ready}
+use Rattle.builder_build.specs.Build.{SoFar, Course, go, refuse, faces, Shared, vertices, BuildOutcome, built, refused_build, start, laid, all_finite, isolated, spread, finish, build}
 use Rattle.builder_build.proofs.Grow.{paired_linked}
 use Rattle.builder_build.proofs.Folded.{Fine, faces_ready, start_ready}
 use Rattle.builder_build.proofs.Settle.{Whole}
-use Rattle.builder_faces.specs.Steps.{so_far, stepped}
-use Rattle.builder_fans.specs.Chains.{shared, Ended, Threads, threads, threaded, marked, spread_over}
+use Rattle.builder_faces.specs.Steps.{so_far}
+use Rattle.builder_fans.specs.Chains.{shared, shared_of, with_shared, with_vertex_mark, with_threads, Roomy, SameRooms, Threads, threads, threaded, marked, rings, spread_over, chains_of}
 use Rattle.builder_fans.proofs.Marks.{fast}
-use Rattle.builder.specs.Calls.{Fresh, Begun}
+use Rattle.builder.specs.Calls.{skipped_of, outcome, faces_in, Fresh, Begun}
 
--- a cleared table is the refusal's
+-- a table that was made blank is the refusal's
 pub made_blank : (rc rv a c v : ℕ) (t : Table) → t ≡ blank c v → c ≡ rc → v ≡ rv → built a 0 t ≡ refused_build rc rv a
 made_blank rc rv a c v t e p q = rw (e, p, q)
 
-pub begun_long : (cv co cm vc vm : List ℕ) (vp : List Float) (n count room skipped : ℕ) → Begun cv co cm vc vm vp n count room skipped
-    → length vm ≡ room
-begun_long cv co cm vc vm vp n count room skipped G = ap length G.flags ∙ length-replicate {0} {A = ℕ} room 0
-
--- ... also after the duplicates, where no length has changed
-pub begun_shaped : (cv co cm vc vm : List ℕ) (vp : List Float) (n count room skipped : ℕ) → Begun cv co cm vc vm vp n count room skipped
-    → (cv' cm' vc' vm' : List ℕ) (vp' : List Float) → length cv' ≡ length cv → length cm' ≡ length cm → length vc' ≡ length vc
-    → length vm' ≡ length vm → length vp' ≡ length vp → Shaped (table cv' co cm' vc' vm' vp' 0 0)
-begun_shaped cv co cm vc vm vp n count room skipped G cv' cm' vc' vm' vp' p q r s t =
-    let l : length vm ≡ room = begun_long cv co cm vc vm vp n count room skipped G in
+-- parts as long as they were are of the shape that they had
+pub shaped_on : (t u : Table) → SameRooms t u → Shaped t → Shaped u
+shaped_on t u R S =
     record {
-      corner_most = omega (arith, q, G.ready.most);
-      vertex_most = omega (arith, s, l, G.small);
-      corner_vertex_room = p ∙ G.ready.cv_length ∙ sym q;
-      corner_opposite_room = G.ready.co_length ∙ sym q;
-      vertex_corner_room = r ∙ G.ready.vc_length ∙ sym (s ∙ l);
-      vertex_point_room = t ∙ G.points ∙ ap (λ (x : ℕ). 3 * x) (sym (s ∙ l));
+      corner_most = omega (arith, R.cm, S.corner_most);
+      vertex_most = omega (arith, R.vm, S.vertex_most);
+      corner_vertex_room = R.cv ∙ S.corner_vertex_room ∙ sym R.cm;
+      corner_opposite_room = R.co ∙ S.corner_opposite_room ∙ sym R.cm;
+      vertex_corner_room = R.vc ∙ S.vertex_corner_room ∙ sym R.vm;
+      vertex_point_room = R.vp ∙ S.vertex_point_room ∙ ap (λ (x : ℕ). 3 * x) (sym R.vm);
     }
 
-module _ (rc rv nv n sk r : ℕ) (cv co vc cm cm₁ cm₂ vm vm₂ cv' vc' : List ℕ) (vp vp' : List Float) (points : List Float)
-    (G : Begun cv co cm vc vm vp n nv rv sk) (long : length cm ≡ rc) (lay : vp ≡ laid rv points)
-    (m : cm₁ ≡ marked (ring co n) vc nv 0 cm) (f : threads cm₂ vm₂ ≡ threaded cv n (threads cm₁ vm))
-    (E : Ended rv (spread_over (ring co n) cm₂ vm₂ n nv 0 (shared cv vc vp nv)) cv' vc' vp' r) where
-  R : Ready nv rc rv (so_far cv co vc n sk)
-  R = subst (λ (x : ℕ). Ready nv x rv (so_far cv co vc n sk)) long G.ready
+-- ---- the duplicates
 
-  L : Linked (λ d. d < n) (λ d. get_or co d absent) (λ d. get_or cv d 0)
-  L = paired_linked R.paired
+module _ (t : Table) where
+  abbrev M : List ℕ
+  M = marked (rings t) t.vertex_corner t.vertices 0 t.corner_mark
 
-  W : Whole n rc rv (λ d. get_or co d absent) (shared cv vc vp nv)
-  W = record { cv_length = R.cv_length; vc_length = R.vc_length; linked = L; below = R.below; home = R.home; has = R.has }
+  abbrev K : Threads
+  K = threaded t.corner_vertex t.corners (threads M t.vertex_mark)
 
-  blank_marks : cm ≡ replicate rc 0
-  blank_marks = G.marks ∙ ap (λ (x : ℕ). replicate x 0) long
+  -- where the corners left are threaded
+  abbrev pub chained : Table
+  chained = with_threads (with_corner_mark t M) K
 
-  chains : threads cm₂ vm₂ ≡ threaded cv n (threads (marked (ring co n) vc nv 0 (replicate rc 0)) (replicate rv 0))
-  chains = f ∙ ap (λ (x : List ℕ). threaded cv n (threads x vm)) (m ∙ ap (marked (ring co n) vc nv 0) blank_marks)
-      ∙ ap (λ (x : List ℕ). threaded cv n (threads (marked (ring co n) vc nv 0 (replicate rc 0)) x)) G.flags
+  pub chained_by : (u w : Table) → u ≡ with_corner_mark t M → w ≡ with_threads u (threaded u.corner_vertex u.corners (threads u.corner_mark u.vertex_mark))
+      → w ≡ chained
+  chained_by u w p q = q ∙ ap (λ (x : Table). with_threads x (threaded x.corner_vertex x.corners (threads x.corner_mark x.vertex_mark))) p
 
-  same : spread_over (ring co n) cm₂ vm₂ n nv 0 (shared cv vc vp nv) ≡ spread rv nv points (so_far cv co vc n sk)
-  same =
-      ap (λ (t : Threads). spread_over (ring co n) t.link t.head n nv 0 (shared cv vc vp nv)) chains
-      ∙ fast n rc rv nv (λ d. get_or co d absent) (ring co n) (ring_exact co n L (λ d h. h)) (shared cv vc vp nv) W R.fits refl R.vertices
-      ∙ ap (λ (p : List Float). vertices (ring co n) n nv 0 (shared cv vc p nv)) lay
+module _ (t : Table) (sk : ℕ) (G : Begun t sk) (w : Table) (e : w ≡ chained t) (Q : SameRooms t w) where
+  pub chained_roomy : Roomy w
+  chained_roomy =
+      let z : w.vertices ≡ t.vertices = ap (λ (x : Table). x.vertices) e in
+      record { most = omega (arith, Q.vm, G.small); few = omega (arith, Q.vm, z, G.ready.vertices) }
 
-  pub finish_full : rv < r → refused_build rc rv 5 ≡ finish rc rv nv points (go (so_far cv co vc n sk))
-  unfolding finish
-  finish_full h =
-      let z : rv < (spread rv nv points (so_far cv co vc n sk)).nv = subst (λ (s : Shared). rv < s.nv) same (E.full h) in
-      rw (lt-ltb rv (spread rv nv points (so_far cv co vc n sk)).nv z)
+  module _ (points : List Float) (lay : t.vertex_point ≡ laid (vertex_room t) points) where
+    abbrev rc : ℕ
+    rc = corner_room t
 
-  pub finish_fits : r ≤ rv → (cm₃ vm₃ : List ℕ) → cm₃ ≡ replicate rc 0 → vm₃ ≡ isolated vc' r 0 (replicate rv 0)
-      → built 0 sk (table cv' co cm₃ vc' vm₃ vp' r n) ≡ finish rc rv nv points (go (so_far cv co vc n sk))
-  unfolding finish
-  finish_fits h cm₃ vm₃ p q = by (spread rv nv points (so_far cv co vc n sk)) (E.fits h ∙ same)
-    where
-      by : (s : Shared) → shared cv' vc' vp' r ≡ s
-          → built 0 sk (table cv' co cm₃ vc' vm₃ vp' r n) ≡ cond (ltb rv s.nv) (refused_build rc rv 5) (done rc rv (so_far cv co vc n sk) s)
-      by s e =
-          subst
-          (λ (t : Shared). built 0 sk (table cv' co cm₃ vc' vm₃ vp' r n) ≡ cond (ltb rv t.nv) (refused_build rc rv 5) (done rc rv (so_far cv co vc n sk) t))
-          e (rw (le-ltb rv r h, p, q))
+    abbrev rv : ℕ
+    rv = vertex_room t
+
+    abbrev nv : ℕ
+    nv = t.vertices
+
+    abbrev n : ℕ
+    n = t.corners
+
+    L : Linked (λ d. d < n) (λ d. get_or t.corner_opposite d absent) (λ d. get_or t.corner_vertex d 0)
+    L = paired_linked G.ready.paired
+
+    W : Whole n rc rv (λ d. get_or t.corner_opposite d absent) (shared_of t)
+    W = record { cv_length = G.ready.cv_length; vc_length = G.ready.vc_length; linked = L; below = G.ready.below; home = G.ready.home; has = G.ready.has }
+
+    chains : K t ≡ threaded t.corner_vertex n (threads (marked (rings t) t.vertex_corner nv 0 (replicate rc 0)) (replicate rv 0))
+    chains = ap (λ (x : List ℕ). threaded t.corner_vertex n (threads x t.vertex_mark)) (ap (marked (rings t) t.vertex_corner nv 0) G.marks)
+        ∙ ap (λ (x : List ℕ). threaded t.corner_vertex n (threads (marked (rings t) t.vertex_corner nv 0 (replicate rc 0)) x)) G.flags
+
+    abbrev S : Shared
+    S = spread rv nv points (faces_in t sk)
+
+    same : chains_of w w.vertices 0 (shared_of w) ≡ S
+    same =
+        ap (λ (x : Table). chains_of x x.vertices 0 (shared_of x)) e
+        ∙ ap (λ (x : Threads). spread_over (rings t) x.link x.head n nv 0 (shared_of t)) chains
+        ∙ fast n rc rv nv (λ d. get_or t.corner_opposite d absent) (rings t) (ring_exact t.corner_opposite n L (λ d h. h)) (shared_of t) W G.ready.fits refl G.ready.vertices
+        ∙ ap (λ (p : List Float). vertices (rings t) n nv 0 (shared t.corner_vertex t.vertex_corner p nv)) lay
+
+    pub finish_full : (a : ℕ) → a ≡ 5 → vertex_room w < (chains_of w w.vertices 0 (shared_of w)).nv
+        → refused_build rc rv a ≡ finish rc rv nv points (go (faces_in t sk))
+    unfolding finish
+    finish_full a p h =
+        let y : vertex_room w < S.nv = subst (λ (s : Shared). vertex_room w < s.nv) same h in
+        let z : rv < S.nv = omega (arith, Q.vm, y) in
+        rw (lt-ltb rv S.nv z, p)
+
+    pub finish_fits : (u : Table) → SameRooms w u → (u ≡ with_shared w (chains_of w w.vertices 0 (shared_of w))) × ((chains_of w w.vertices 0 (shared_of w)).nv ≤ vertex_room w)
+        → (cm vm : List ℕ) → cm ≡ replicate (length u.corner_mark) 0 → vm ≡ replicate (length u.vertex_mark) 0
+        → (x : Table) → x ≡ with_vertex_mark (with_vertex_mark (with_corner_mark u cm) vm) (isolated u.vertex_corner u.vertices 0 vm)
+        → built 0 sk x ≡ finish rc rv nv points (go (faces_in t sk))
+    unfolding finish
+    finish_fits u R g cm vm p q x d =
+        let y : S.nv ≤ vertex_room w = subst (λ (s : Shared). s.nv ≤ vertex_room w) same g.1 in
+        let z : S.nv ≤ rv = omega (arith, Q.vm, y) in
+        rw (le-ltb rv S.nv z) (ap (built 0 sk) (d ∙ made))
+      where
+        left : u ≡ with_shared (chained t) S
+        left = g.0 ∙ ap (with_shared w) same ∙ ap (λ (v : Table). with_shared v S) e
+
+        cleared : cm ≡ replicate rc 0
+        cleared = p ∙ ap (λ (k : ℕ). replicate k 0) (R.cm ∙ Q.cm)
+
+        unflagged : vm ≡ replicate rv 0
+        unflagged = q ∙ ap (λ (k : ℕ). replicate k 0) (R.vm ∙ Q.vm)
+
+        made : with_vertex_mark (with_vertex_mark (with_corner_mark u cm) vm) (isolated u.vertex_corner u.vertices 0 vm)
+            ≡ table S.cv t.corner_opposite (replicate rc 0) S.vc (isolated S.vc S.nv 0 (replicate rv 0)) S.vp S.nv n
+        made =
+            ap (λ (v : Table). with_vertex_mark (with_vertex_mark (with_corner_mark v cm) vm) (isolated v.vertex_corner v.vertices 0 vm)) left
+            ∙ ap (λ (l : List ℕ). table S.cv t.corner_opposite l S.vc (isolated S.vc S.nv 0 vm) S.vp S.nv n) cleared
+            ∙ ap (λ (l : List ℕ). table S.cv t.corner_opposite (replicate rc 0) S.vc (isolated S.vc S.nv 0 l) S.vp S.nv n) unflagged
 
 -- ---- points and faces
 
@@ -102,136 +142,151 @@ drop_replicate zero n x = rw sub-zero
 drop_replicate (suc m) zero x = let z : 0 - suc m ≡ 0 = omega arith in rw z
 drop_replicate (suc m) (suc n) x = let z : suc n - suc m ≡ n - m = omega arith in rw z (drop_replicate m n x)
 
-module _ (cv co cm vc vm : List ℕ) (vp ps : List Float) (rc rv nv : ℕ) (B : Fresh cv co cm vc vm vp ps rc rv nv) where
-  points_blank : vp ≡ replicate (3 * rv) nought
-  points_blank = ap (λ (t : Table). t.vertex_point) B.empty
+module _ (t : Table) (ps : List Float) (B : Fresh t ps) where
+  points_blank : t.vertex_point ≡ replicate (3 * (vertex_room t)) nought
+  points_blank = ap (λ (x : Table). x.vertex_point) B.empty
 
-  pub vp_long : length vp ≡ 3 * rv
-  vp_long = ap length (points_blank) ∙ length-replicate (3 * rv) nought
+  vp_long : length t.vertex_point ≡ 3 * (vertex_room t)
+  vp_long = ap length points_blank ∙ length-replicate (3 * (vertex_room t)) nought
 
-  pub lay_fits : length ps ≤ length vp
+  pub lay_fits : length ps ≤ length t.vertex_point
   lay_fits = omega (arith, vp_long, B.thirds, B.fits)
 
-  pub laid_is : (vp' : List Float) → vp' ≡ sets vp 0 ps → vp' ≡ laid rv ps
+  pub laid_is : (vp : List Float) → vp ≡ sets t.vertex_point 0 ps → vp ≡ laid (vertex_room t) ps
   unfolding laid
-  laid_is vp' e = e ∙ sets-eq ps vp 0 (omega (arith, lay_fits)) ∙ ap (λ (t : List Float). ps ++ t) tail
+  laid_is vp e = e ∙ sets-eq ps t.vertex_point 0 (omega (arith, lay_fits)) ∙ ap (λ (x : List Float). ps ++ x) tail
     where
-      tail : drop (0 + length ps) vp ≡ replicate (3 * rv - length ps) nought
-      tail = let z : 0 + length ps ≡ length ps = omega arith in rw (z, points_blank) (drop_replicate (length ps) (3 * rv) nought)
+      tail : drop (0 + length ps) t.vertex_point ≡ replicate (3 * (vertex_room t) - length ps) nought
+      tail = let z : 0 + length ps ≡ length ps = omega arith in rw (z, points_blank) (drop_replicate (length ps) (3 * (vertex_room t)) nought)
 
-  begin : so_far cv co vc 0 0 ≡ start rc rv
-  begin = ap (λ (t : Table). so_far t.corner_vertex t.corner_opposite t.vertex_corner 0 0) B.empty
+  begin : so_far t.corner_vertex t.corner_opposite t.vertex_corner 0 0 ≡ start (corner_room t) (vertex_room t)
+  begin = ap (λ (x : Table). so_far x.corner_vertex x.corner_opposite x.vertex_corner 0 0) B.empty
 
-  pub cm_long : length cm ≡ rc
-  cm_long = ap (λ (t : Table). length t.corner_mark) B.empty ∙ length-replicate {0} {A = ℕ} rc 0
+  module _ (fs : List ℕ) where
+    pub made_refused : (a : ℕ) → refuse a ≡ faces (length ps / 3) (corner_room t) (so_far t.corner_vertex t.corner_opposite t.vertex_corner 0 0) fs
+        → refused_build (corner_room t) (vertex_room t) a ≡ finish (corner_room t) (vertex_room t) (length ps / 3) ps (faces (length ps / 3) (corner_room t) (start (corner_room t) (vertex_room t)) fs)
+    unfolding finish
+    made_refused a e = ap (finish (corner_room t) (vertex_room t) (length ps / 3) ps) (e ∙ ap (λ (k : SoFar). faces (length ps / 3) (corner_room t) k fs) begin)
 
-  pub vm_long : length vm ≡ rv
-  vm_long = ap (λ (t : Table). length t.vertex_mark) B.empty ∙ length-replicate {0} {A = ℕ} rv 0
+    module _ (cv co vc : List ℕ) (n sk : ℕ) (e : go (so_far cv co vc n sk) ≡ faces (length ps / 3) (corner_room t) (so_far t.corner_vertex t.corner_opposite t.vertex_corner 0 0) fs) where
+      e' : go (so_far cv co vc n sk) ≡ faces (length ps / 3) (corner_room t) (start (corner_room t) (vertex_room t)) fs
+      e' = e ∙ ap (λ (k : SoFar). faces (length ps / 3) (corner_room t) k fs) begin
 
-  -- the parts where a refused table is made blank
-  pub added_shaped : (cv' co' vc' : List ℕ) (vp' : List Float) → length cv' ≡ length cv → length co' ≡ length co → length vc' ≡ length vc → length vp' ≡ length vp
-      → Shaped (table cv' co' cm vc' vm vp' 0 0)
-  added_shaped cv' co' vc' vp' p q r s =
-      record {
-        corner_most = omega (arith, cm_long, B.corners);
-        vertex_most = omega (arith, vm_long, B.rooms);
-        corner_vertex_room = p ∙ ap (λ (t : Table). length t.corner_vertex) B.empty ∙ length-replicate {0} {A = ℕ} rc 0 ∙ sym cm_long;
-        corner_opposite_room = q ∙ ap (λ (t : Table). length t.corner_opposite) B.empty ∙ length-replicate {0} {A = ℕ} rc absent ∙ sym cm_long;
-        vertex_corner_room = r ∙ ap (λ (t : Table). length t.vertex_corner) B.empty ∙ length-replicate {0} {A = ℕ} rv absent ∙ sym vm_long;
-        vertex_point_room = s ∙ vp_long ∙ ap (λ (x : ℕ). 3 * x) (sym vm_long);
+      pub begun : (vp : List Float) → length vp ≡ length t.vertex_point → Begun (table cv co t.corner_mark vc t.vertex_mark vp (length ps / 3) n) sk
+      begun vp l = record {
+        ready = subst (λ (c : Course). Fine (length ps / 3) (corner_room t) (vertex_room t) c) (sym e') (faces_ready (length ps / 3) (corner_room t) (vertex_room t) fs (start (corner_room t) (vertex_room t)) (start_ready (length ps / 3) (corner_room t) (vertex_room t) B.fits B.corners));
+        marks = ap (λ (x : Table). x.corner_mark) B.empty;
+        flags = ap (λ (x : Table). x.vertex_mark) B.empty;
+        points = l ∙ vp_long;
+        small = B.rooms;
       }
 
-  module _ (fs cv' co' vc' : List ℕ) (a n sk : ℕ) (e : stepped a (so_far cv' co' vc' n sk) ≡ faces nv rc (so_far cv co vc 0 0) fs) where
-    e' : stepped a (so_far cv' co' vc' n sk) ≡ faces nv rc (start rc rv) fs
-    e' = e ∙ ap (λ (k : SoFar). faces nv rc k fs) begin
-
-    fine : Fine nv rc rv (stepped a (so_far cv' co' vc' n sk))
-    fine = subst (λ (t : Course). Fine nv rc rv t) (sym e') (faces_ready nv rc rv fs (start rc rv) (start_ready nv rc rv B.fits B.corners))
-
-    ready : (x : ℕ) → Fine nv rc rv (stepped x (so_far cv' co' vc' n sk)) → x ≡ 0 → Ready nv rc rv (so_far cv' co' vc' n sk)
-    ready zero h z = h
-    ready (suc x) h z = absurd (omega arith)
-
-    pub begun : a ≡ 0 → (vp' : List Float) → length vp' ≡ length vp → Begun cv' co' cm vc' vm vp' n nv rv sk
-    begun z vp' l = record {
-      ready = subst (λ (x : ℕ). Ready nv x rv (so_far cv' co' vc' n sk)) (sym cm_long) (ready a fine z);
-      marks = ap (λ (t : Table). t.corner_mark) B.empty ∙ ap (λ (x : ℕ). replicate x 0) (sym cm_long);
-      flags = ap (λ (t : Table). t.vertex_mark) B.empty;
-      points = l ∙ vp_long;
-      small = B.rooms;
-    }
-
-    pub made_refused : (a ≡ 0 → ⊥) → refused_build rc rv a ≡ finish rc rv nv ps (faces nv rc (start rc rv) fs)
-    unfolding finish
-    made_refused z = by a z e'
-      where
-        by : (x : ℕ) → (x ≡ 0 → ⊥) → stepped x (so_far cv' co' vc' n sk) ≡ faces nv rc (start rc rv) fs → refused_build rc rv x ≡ finish rc rv nv ps (faces nv rc (start rc rv) fs)
-        by zero n q = absurd (n refl)
-        by (suc x) n q = ap (finish rc rv nv ps) q
-
-    pub made_done : a ≡ 0 → (o : BuildOutcome) → o ≡ finish (length cm) rv nv ps (go (so_far cv' co' vc' n sk)) → o ≡ finish rc rv nv ps (faces nv rc (start rc rv) fs)
-    made_done z o q = q ∙ ap (λ (x : ℕ). finish x rv nv ps (go (so_far cv' co' vc' n sk))) cm_long ∙ ap (finish rc rv nv ps) (by a z e')
-      where
-        by : (x : ℕ) → x ≡ 0 → stepped x (so_far cv' co' vc' n sk) ≡ faces nv rc (start rc rv) fs → go (so_far cv' co' vc' n sk) ≡ faces nv rc (start rc rv) fs
-        by zero n q = q
-        by (suc x) n q = absurd (omega arith)
+      pub made_done : (o : BuildOutcome) → o ≡ finish (corner_room t) (vertex_room t) (length ps / 3) ps (go (so_far cv co vc n sk)) → o ≡ finish (corner_room t) (vertex_room t) (length ps / 3) ps (faces (length ps / 3) (corner_room t) (start (corner_room t) (vertex_room t)) fs)
+      made_done o q = q ∙ ap (finish (corner_room t) (vertex_room t) (length ps / 3) ps) e'
 
 -- ---- the checks of the call
 
-module _ (cv co cm vc vm : List ℕ) (vp ps : List Float) (fs : List ℕ) (nv nc : ℕ) (b : Bool)
-    (is : b ≡ shaped_by (length cv) (length co) (length cm) (length vc) (length vm) (length vp)) where
-  pub build_unshaped : b ≡ false → built 1 0 (table cv co cm vc vm vp nv nc) ≡ build (table cv co cm vc vm vp nv nc) ps fs
+module _ (t : Table) (ps : List Float) (fs : List ℕ) (b : Bool) (is : b ≡ shaped t) where
+  pub build_unshaped : b ≡ false → built 1 0 t ≡ build t ps fs
   unfolding build
   build_unshaped e = rw (← is, e)
 
   module _ (y : b ≡ true) where
-    pub build_thirds : (length ps % 3 ≡ 0 → ⊥) → built 1 0 (table cv co cm vc vm vp nv nc) ≡ build (table cv co cm vc vm vp nv nc) ps fs
+    pub build_thirds : (length ps % 3 ≡ 0 → ⊥) → built 1 0 t ≡ build t ps fs
     unfolding build
     build_thirds h = rw (← is, y, ne_eqb (length ps % 3) 0 h)
 
-    pub S : Shaped (table cv co cm vc vm vp nv nc)
-    S = shaped_true (table cv co cm vc vm vp nv nc) (sym is ∙ y)
+    pub shape : Shaped t
+    shape = shaped_true t (sym is ∙ y)
 
-    module _ (z : length ps % 3 ≡ 0) (cv' co' cm' vc' vm' : List ℕ) (vp' : List Float)
-        (n : Counts) (B : table cv' co' cm' vc' vm' vp' n.vertices n.corners ≡ blank (length cm) (length vm)) where
-      none : (a : ℕ) → built a 0 (table cv' co' cm' vc' vm' vp' n.vertices n.corners) ≡ refused_build (length cm) (length vm) a
-      none a = made_blank (length cm) (length vm) a _ _ _ B refl refl
+    module _ (z : length ps % 3 ≡ 0) (u : Table) (B : u ≡ blank (corner_room t) (vertex_room t)) where
+      cm_long : length u.corner_mark ≡ corner_room t
+      cm_long = ap (λ (x : Table). length x.corner_mark) B ∙ length-replicate {0} {A = ℕ} (corner_room t) 0
+
+      vm_long : length u.vertex_mark ≡ vertex_room t
+      vm_long = ap (λ (x : Table). length x.vertex_mark) B ∙ length-replicate {0} {A = ℕ} (vertex_room t) 0
+
+      pub blank_shape : Shaped u
+      blank_shape =
+          record {
+            corner_most = omega (arith, cm_long, shape.corner_most);
+            vertex_most = omega (arith, vm_long, shape.vertex_most);
+            corner_vertex_room = ap (λ (x : Table). length x.corner_vertex) B ∙ length-replicate {0} {A = ℕ} (corner_room t) 0 ∙ sym cm_long;
+            corner_opposite_room = ap (λ (x : Table). length x.corner_opposite) B ∙ length-replicate {0} {A = ℕ} (corner_room t) absent ∙ sym cm_long;
+            vertex_corner_room = ap (λ (x : Table). length x.vertex_corner) B ∙ length-replicate {0} {A = ℕ} (vertex_room t) absent ∙ sym vm_long;
+            vertex_point_room =
+                ap (λ (x : Table). length x.vertex_point) B ∙ length-replicate (3 * vertex_room t) nought ∙ ap (λ (x : ℕ). 3 * x) (sym vm_long);
+          }
 
       -- 5, then 4
-      module _ (t : Bool) (fin : t ≡ all_finite ps) (a : ℕ) (met : a ≡ cond (ltb (length vm) (length ps / 3)) 5 (cond (not t) 4 0)) where
-        pub build_refused : (a ≡ 0 → ⊥) → built a 0 (table cv' co' cm' vc' vm' vp' n.vertices n.corners) ≡ build (table cv co cm vc vm vp nv nc) ps fs
+      module _ (fin : Bool) (is_fin : fin ≡ all_finite ps) (a : ℕ) (met : a ≡ cond (ltb (vertex_room u) (length ps / 3)) 5 (cond (not fin) 4 0)) where
+        pub build_refused : (a ≡ 0 → ⊥) → built a 0 u ≡ build t ps fs
         unfolding build
-        build_refused k = none a ∙ by (ltb (length vm) (length ps / 3)) t met k ∙ rw (← is, y, eq-eqb (length ps % 3) 0 z, ← fin)
+        build_refused k =
+            made_blank (corner_room t) (vertex_room t) a _ _ u B refl refl
+            ∙ by (ltb (vertex_room t) (length ps / 3)) fin (rw vm_long at met) k ∙ rw (← is, y, eq-eqb (length ps % 3) 0 z, ← is_fin)
           where
             by : (over finite : Bool) → a ≡ cond over 5 (cond (not finite) 4 0) → (a ≡ 0 → ⊥)
-                → refused_build (length cm) (length vm) a
-                ≡ cond over (refused_build (length cm) (length vm) 5)
-                (cond finite (finish (length cm) (length vm) (length ps / 3) ps (faces (length ps / 3) (length cm) (start (length cm) (length vm)) fs))
-                (refused_build (length cm) (length vm) 4))
+                → refused_build (corner_room t) (vertex_room t) a
+                ≡ cond over (refused_build (corner_room t) (vertex_room t) 5)
+                (cond finite (finish (corner_room t) (vertex_room t) (length ps / 3) ps (faces (length ps / 3) (corner_room t) (start (corner_room t) (vertex_room t)) fs))
+                (refused_build (corner_room t) (vertex_room t) 4))
             by true f e k = rw e
             by false true e k = absurd (k e)
             by false false e k = rw e
 
         -- neither
-        pub build_passed : a ≡ 0 → (length ps / 3 ≤ length vm) × (t ≡ true)
-        build_passed e = by (ltb (length vm) (length ps / 3)) refl t refl (sym met ∙ e)
+        build_passed : a ≡ 0 → (length ps / 3 ≤ vertex_room t) × (fin ≡ true)
+        build_passed e = by (ltb (vertex_room t) (length ps / 3)) refl fin refl (sym (rw vm_long at met) ∙ e)
           where
-            by : (over : Bool) → ltb (length vm) (length ps / 3) ≡ over → (finite : Bool) → t ≡ finite → ◌≡◌ {A = ℕ} (cond over 5 (cond (not finite) 4 0)) 0
-                → (length ps / 3 ≤ length vm) × (t ≡ true)
+            by : (over : Bool) → ltb (vertex_room t) (length ps / 3) ≡ over → (finite : Bool) → fin ≡ finite → ◌≡◌ {A = ℕ} (cond over 5 (cond (not finite) 4 0)) 0
+                → (length ps / 3 ≤ vertex_room t) × (fin ≡ true)
             by true p f q h = absurd (omega (arith, h))
             by false p true q h = (ltb-false _ _ p, q)
             by false p false q h = absurd (omega (arith, h))
 
-      module _ (h : length ps / 3 ≤ length vm) (t : Bool) (fin : t ≡ all_finite ps) where
-        pub build_fresh : Fresh cv' co' cm' vc' vm' vp' ps (length cm) (length vm) (length ps / 3)
+      module _ (h : length ps / 3 ≤ vertex_room t) where
+        build_fresh : Fresh u ps
         build_fresh =
-            let p : n.vertices ≡ 0 = ap (λ (t : Table). t.vertices) B in
-            let q : n.corners ≡ 0 = ap (λ (t : Table). t.corners) B in
-            let e : table cv' co' cm' vc' vm' vp' n.vertices n.corners ≡ table cv' co' cm' vc' vm' vp' 0 0 = rw (p, q) in
-            record { empty = sym e ∙ B; corners = S.corner_most; rooms = S.vertex_most; fits = h; thirds = omega (arith, z) }
+            record {
+              empty = B ∙ rw (cm_long, vm_long);
+              corners = omega (arith, cm_long, shape.corner_most);
+              rooms = omega (arith, vm_long, shape.vertex_most);
+              fits = omega (arith, vm_long, h);
+              thirds = z;
+            }
 
-        pub build_made : t ≡ true → (o : BuildOutcome)
-            → o ≡ finish (length cm) (length vm) (length ps / 3) ps (faces (length ps / 3) (length cm) (start (length cm) (length vm)) fs)
-            → o ≡ build (table cv co cm vc vm vp nv nc) ps fs
+        -- what the rest of the call makes of u
+        build_made : all_finite ps ≡ true → (o : BuildOutcome)
+            → o ≡ finish (corner_room u) (vertex_room u) (length ps / 3) ps (faces (length ps / 3) (corner_room u) (start (corner_room u) (vertex_room u)) fs)
+            → o ≡ build t ps fs
         unfolding build
-        build_made e o q = q ∙ rw (← is, y, eq-eqb (length ps % 3) 0 z, le-ltb (length vm) (length ps / 3) h, ← fin, e)
+        build_made e o q = (rw (cm_long, vm_long) at q) ∙ rw (← is, y, eq-eqb (length ps % 3) 0 z, le-ltb (vertex_room t) (length ps / 3) h, e)
+
+      -- where neither the points nor their number is refused, what is left is the rest of the call
+      pub build_goes : (fin : Bool) → fin ≡ all_finite ps → (a : ℕ) → a ≡ cond (ltb (vertex_room u) (length ps / 3)) 5 (cond (not fin) 4 0) → a ≡ 0
+          → Fresh u ps
+          × ((o : BuildOutcome)
+          → o ≡ finish (corner_room u) (vertex_room u) (length ps / 3) ps (faces (length ps / 3) (corner_room u) (start (corner_room u) (vertex_room u)) fs)
+          → o ≡ build t ps fs)
+      build_goes fin is_fin a met e =
+          let w = build_passed fin is_fin a met e in
+          (build_fresh w.0, build_made w.0 (sym is_fin ∙ w.1))
+
+-- ---- the end of the call: u before the attempt, v after it
+
+module _ (r : Result ℕ Refusal) (u v : Table) (o : BuildOutcome) (q : outcome u r v ≡ o) where
+  pub settled : is_err r ≡ false → built (answer_of r) (skipped_of r) v ≡ o
+  settled = by r q
+    where
+      by : (x : Result ℕ Refusal) → outcome u x v ≡ o → is_err x ≡ false → built (answer_of x) (skipped_of x) v ≡ o
+      by (Ok k) h e = h
+      by (Err n) h e = absurd (true≢false e)
+
+  pub settled_blank : is_err r ≡ true → SameRooms u v → (w : Table) → w ≡ blank (corner_room v) (vertex_room v)
+      → built (answer_of r) (skipped_of r) w ≡ o
+  settled_blank e R w B = by r q e
+    where
+      by : (x : Result ℕ Refusal) → outcome u x v ≡ o → is_err x ≡ true → built (answer_of x) (skipped_of x) w ≡ o
+      by (Ok k) h z = absurd (false≢true z)
+      by (Err n) h z = made_blank (corner_room u) (vertex_room u) (number_of n) _ _ w B R.cm R.vm ∙ h

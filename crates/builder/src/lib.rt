@@ -1,149 +1,70 @@
 // builder.rs: a table from points and faces, in lent memory.
 #![tactic(auto)]
 
-ghost use Rattle.std.specs.Prelude.{◌≡◌, List, Float, length};
-ghost use Rattle.table.specs.Lent.{before, after};
+ghost use Rattle.std.specs.Prelude.{◌≡◌, ◌/◌, List, Float, length};
+ghost use Rattle.refusal.specs.Refusal.{answer_of};
+ghost use Rattle.table.specs.Table.{corner_room, vertex_room};
+ghost use Rattle.table.specs.Parts.{SameParts, lent};
 ghost use Rattle.builder_build.specs.Build.{built, go, build as build_of, finish as finish_of, faces as faces_of, start, laid};
-ghost use Rattle.builder_faces.specs.Steps.{so_far};
-ghost use Rattle.builder.specs.Calls.{Begun, Fresh};
+ghost use Rattle.builder_fans.specs.Chains.{SameRooms};
+ghost use Rattle.builder.specs.Calls.{skipped_of, outcome, faces_in, Begun, Fresh};
 
 use builder_edges::points_refusal;
-use table::Counts;
+use refusal::Refusal;
+use table::Lent;
 
-// The answer, how many faces were skipped, and how much of the table is used.
-#[derive(Clone, Copy)]
-pub struct Built {
-    pub answer: u32,
-    pub skipped: usize,
-    pub counts: Counts,
+// After the faces: duplicates, then deleted vertices. The marks hold the corners left until the duplicates are done.
+fn finish(t: &mut Lent, skipped: usize) -> Result<usize, Refusal>
+    requires { Begun (lent t.old) skipped }
+    ensures parts { SameParts t.old t.new }
+    ensures rooms { SameRooms (lent t.old) (lent t.new) }
+    ensures finished { (points : List Float) → t.old.vp.now ≡ laid (vertex_room (lent t.old)) points
+        → outcome (lent t.old) result (lent t.new)
+        ≡ finish_of (corner_room (lent t.old)) (vertex_room (lent t.old)) t.old.vertices points (go (faces_in (lent t.old) skipped)) }
+{
+    builder_fans::mark_fans(t);
+    builder_fans::thread_left(t);
+    builder_fans::spread(t)?;
+    t.cm.fill(0);
+    t.vm.fill(0);
+    builder_fans::isolate(t);
+    Ok(skipped)
 }
 
-// After the faces: duplicates, or the blank table where they don't fit; then deleted vertices. The marks hold the corners left until
-// the duplicates are done.
-fn finish(
-    cv: &mut [u32],
-    co: &mut [u32],
-    cm: &mut [u32],
-    vc: &mut [u32],
-    vm: &mut [u32],
-    vp: &mut [f32],
-    n: u32,
-    count: u32,
-    room: u32,
-    skipped: usize,
-) -> Built
-    requires { Begun cv.old co.old cm.old vc.old vm.old vp.old n count room skipped }
-    ensures { (points : List Float) → vp.old ≡ laid room points
-        → built result.answer result.skipped (after cv co cm vc vm vp result.counts)
-        ≡ finish_of (length cm.old) room count points (go (so_far cv.old co.old vc.old n skipped)) }
+// Points, faces and the rest, on a blank table. One that is refused is left as it stands.
+fn add_all(t: &mut Lent, points: &[f32], faces: &[u32]) -> Result<usize, Refusal>
+    requires { Fresh (lent t.old) points.now }
+    ensures parts { SameParts t.old t.new }
+    ensures rooms { SameRooms (lent t.old) (lent t.new) }
+    ensures added { outcome (lent t.old) result (lent t.new)
+        ≡ finish_of (corner_room (lent t.old)) (vertex_room (lent t.old)) (length points.now / 3) points.now
+        (faces_of (length points.now / 3) (corner_room (lent t.old)) (start (corner_room (lent t.old)) (vertex_room (lent t.old))) faces.now) }
 {
-    builder_fans::mark_fans(co, vc, cm, n, count);
-    builder_fans::thread_left(cv, cm, vm, n);
-    let u = builder_fans::spread(co, cm, vm, cv, vc, vp, n, room, count);
-    if u > room {
-        let none = table::clear(cv, co, cm, vc, vm, vp);
-        return Built {
-            answer: 5,
-            skipped: 0,
-            counts: none,
-        };
-    }
-    table::fill(cm, 0);
-    table::fill(vm, 0);
-    builder_fans::isolate(vc, vm, u);
-    Built {
-        answer: 0,
-        skipped: skipped,
-        counts: Counts {
-            vertices: u,
-            corners: n,
-        },
-    }
+    builder_faces::add_vertices(t.vp, points);
+    let count = (points.len() / 3) as u32;
+    let room = t.cm.len() as u32;
+    let (cv, co, vc) = (&mut *t.cv, &mut *t.co, &mut *t.vc);
+    let added = builder_faces::add_faces(cv, co, vc, count, room, faces)?;
+    t.vertices = count;
+    t.corners = added.corners;
+    finish(t, added.skipped)
 }
 
-// Points, faces and the rest, on a blank table.
-fn add_all(
-    cv: &mut [u32],
-    co: &mut [u32],
-    cm: &mut [u32],
-    vc: &mut [u32],
-    vm: &mut [u32],
-    vp: &mut [f32],
-    points: &[f32],
-    faces: &[u32],
-    corners: u32,
-    room: u32,
-    count: u32,
-) -> Built
-    requires { Fresh cv.old co.old cm.old vc.old vm.old vp.old points.now corners room count }
-    ensures { built result.answer result.skipped (after cv co cm vc vm vp result.counts)
-        ≡ finish_of corners room count points.now (faces_of count corners (start corners room) faces.now) }
+// Builds the lent table. Ok: how many faces were skipped. Refused for its parts it is as it was, and for all else blank.
+pub fn build(t: &mut Lent, points: &[f32], faces: &[u32]) -> Result<usize, Refusal>
+    ensures parts { SameParts t.old t.new }
+    ensures built { built (answer_of result) (skipped_of result) (lent t.new)
+        ≡ build_of (lent t.old) points.now faces.now }
 {
-    builder_faces::add_vertices(vp, points);
-    let r = builder_faces::add_faces(cv, co, vc, count, corners, faces);
-    if r.answer != 0 {
-        let none = table::clear(cv, co, cm, vc, vm, vp);
-        return Built {
-            answer: r.answer,
-            skipped: 0,
-            counts: none,
-        };
+    if !t.seen().is_shaped() || points.len() % 3 != 0 {
+        return Err(Refusal::Parts);
     }
-    finish(cv, co, cm, vc, vm, vp, r.corners, count, room, r.skipped)
-}
-
-// Builds the table in the six lent parts. The counts are those of the table that was there; they come back where nothing is written.
-pub fn build(
-    cv: &mut [u32],
-    co: &mut [u32],
-    cm: &mut [u32],
-    vc: &mut [u32],
-    vm: &mut [u32],
-    vp: &mut [f32],
-    counts: Counts,
-    points: &[f32],
-    faces: &[u32],
-) -> Built
-    ensures { built result.answer result.skipped (after cv co cm vc vm vp result.counts)
-        ≡ build_of (before cv co cm vc vm vp counts) points.now faces.now }
-{
-    if !table::is_shaped(cv.len(), co.len(), cm.len(), vc.len(), vm.len(), vp.len()) {
-        return Built {
-            answer: 1,
-            skipped: 0,
-            counts: counts,
-        };
+    t.blank();
+    let over = t.vm.len() < points.len() / 3;
+    points_refusal(over, !builder_faces::all_finite(points))?;
+    let done = add_all(t, points, faces);
+    if done.is_err() {
+        t.blank();
     }
-    if points.len() % 3 != 0 {
-        return Built {
-            answer: 1,
-            skipped: 0,
-            counts: counts,
-        };
-    }
-    let corners = cm.len();
-    let room = vm.len();
-    let count = points.len() / 3;
-    let blank = table::clear(cv, co, cm, vc, vm, vp);
-    let a = points_refusal(room < count, !builder_faces::all_finite(points));
-    if a != 0 {
-        return Built {
-            answer: a,
-            skipped: 0,
-            counts: blank,
-        };
-    }
-    add_all(
-        cv,
-        co,
-        cm,
-        vc,
-        vm,
-        vp,
-        points,
-        faces,
-        corners as u32,
-        room as u32,
-        count as u32,
-    )
+    done
 }

@@ -17,7 +17,7 @@ use Rattle.corner.proofs.Turns.{next_below}
 use Rattle.table.specs.Slots.{nought, point_at, with_point}
 use Rattle.table.specs.Table.{Table, Live, LiveVertex, Shaped, max_vertices}
 use Rattle.table.specs.Rules.{WellFormed}
-use Rattle.flag.proofs.Words.{and_true}
+use Rattle.std.proofs.lemmas.Bool.{and_parts}
 use Rattle.fan.proofs.Fan.{Left, Conn, Linked, conn_fan}
 use Rattle.fan.proofs.Spread.{Settled}
 use Rattle.ring.specs.Ring.{ring}
@@ -43,8 +43,8 @@ replicate_finite (suc n) (suc i) = replicate_finite n i
 
 append_finite : (l : List Float) (n : ℕ) → all_finite l ≡ true → AllFinite (l ++ replicate n nought)
 append_finite [] n e i = replicate_finite n i
-append_finite (x ∷ xs) n e zero = (and_true (finite x) (all_finite xs) e).0
-append_finite (x ∷ xs) n e (suc i) = append_finite xs n (and_true (finite x) (all_finite xs) e).1 i
+append_finite (x ∷ xs) n e zero = (and_parts (finite x) (all_finite xs) e).0
+append_finite (x ∷ xs) n e (suc i) = append_finite xs n (and_parts (finite x) (all_finite xs) e).1 i
 
 laid_finite : (rv : ℕ) (l : List Float) → all_finite l ≡ true → AllFinite (laid rv l)
 unfolding laid

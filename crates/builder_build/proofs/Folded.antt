@@ -10,7 +10,7 @@ use lib.Dec.{eqb, ltb}
 use lib.ListN.{get_or, replicate, length-replicate}
 use Rattle.corner.specs.Corner.{absent}
 use Rattle.table.specs.Table.{max_corners}
-use Rattle.flag.proofs.Words.{and_true, or_false}
+use Rattle.std.proofs.lemmas.Bool.{and_parts, or_parts}
 use Rattle.builder_build.specs.Build.{SoFar, start, found, held, skip, grow, Course, refuse, go, known, repeated, taken, face, on_course, faces}
 use Rattle.builder_build.specs.Ready.{Ready}
 use Rattle.builder_build.proofs.Ready.{grow_ready, skip_ready}
@@ -35,12 +35,12 @@ module _ (nv room vroom : ℕ) where
       by true false true f p q w z = skip_ready nv room vroom s R
       by true false false true p q w z = omega arith
       by true false false false p q w z =
-          let n1 = and_true (ltb a nv) (ltb b nv && ltb c nv) p in
-          let n2 = and_true (ltb b nv) (ltb c nv) n1.1 in
-          let r1 = or_false (eqb a b) (eqb b c || eqb c a) q in
-          let r2 = or_false (eqb b c) (eqb c a) r1.1 in
-          let t1 = or_false (held s b c) (held s c a || held s a b) w in
-          let t2 = or_false (held s c a) (held s a b) t1.1 in
+          let n1 = and_parts (ltb a nv) (ltb b nv && ltb c nv) p in
+          let n2 = and_parts (ltb b nv) (ltb c nv) n1.1 in
+          let r1 = or_parts (eqb a b) (eqb b c || eqb c a) q in
+          let r2 = or_parts (eqb b c) (eqb c a) r1.1 in
+          let t1 = or_parts (held s b c) (held s c a || held s a b) w in
+          let t2 = or_parts (held s c a) (held s a b) t1.1 in
           grow_ready nv room vroom s R a b c
           (ltb-true a nv n1.0)
           (ltb-true b nv n2.0)

@@ -9,7 +9,7 @@ use lib.Dec.{eqb, ltb}
 use lib.Ieee.{Float}
 use lib.ListN.{length}
 use Rattle.table.specs.Table.{Table, corner_room, vertex_room, shaped, Shaped, max_vertices}
-use Rattle.flag.proofs.Words.{and_true}
+use Rattle.std.proofs.lemmas.Bool.{and_parts}
 use Rattle.table.proofs.Shape.{shaped_true}
 use Rattle.builder_build.specs.Build.{Course, refuse, go, faces, refused_build, start, all_finite, done, spread, finish, build, Finished}
 use Rattle.builder_build.proofs.Folded.{Fine, faces_ready, start_ready}
@@ -49,7 +49,7 @@ module _ (t : Table) (points : List Float) (fs : List ℕ) where
   by true true c p q r = never 5 (omega arith) rc rv
   by true false false p q r = never 4 (omega arith) rc rv
   by true false true p q r =
-      let z = and_true (shaped t) (eqb (length points % 3) 0) p in
+      let z = and_parts (shaped t) (eqb (length points % 3) 0) p in
       let s : Shaped t = shaped_true t z.0 in
       let m : length points % 3 ≡ 0 = eqb-true _ _ z.1 in
       let f : nv ≤ rv = ltb-false rv nv q in

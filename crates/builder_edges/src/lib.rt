@@ -6,181 +6,171 @@
 #![tactic(auto)]
 
 ghost use Rattle.std.specs.Prelude.{◌≡◌, cond, ◌+◌, ◌<◌, ◌%◌};
+ghost use Rattle.refusal.specs.Refusal.{answer_of};
 ghost use Rattle.builder_build.specs.Build.{known as known_of, repeated as repeated_of};
 ghost use Rattle.builder_edges.specs.Search.{noted, look_of, face_look, touched, among_of, sought, taken_by};
 
+use corner::Corner;
+use refusal::Refusal;
+use vertex::Vertex;
+
+// A face, by its three vertices.
+#[derive(Clone, Copy)]
+pub struct Triangle {
+    pub a: Vertex,
+    pub b: Vertex,
+    pub c: Vertex,
+}
+
 // ---- the search
 
-// The corners whose edges run from b to c, from c to a, and so on, or ABSENT.
+// The corners whose edges run from b to c, from c to a, and so on, if there are such.
 #[derive(Clone, Copy)]
 pub struct Found {
-    pub bc: u32,
-    pub ca: u32,
-    pub ab: u32,
-    pub cb: u32,
-    pub ac: u32,
-    pub ba: u32,
+    pub bc: Option<Corner>,
+    pub ca: Option<Corner>,
+    pub ab: Option<Corner>,
+    pub cb: Option<Corner>,
+    pub ac: Option<Corner>,
+    pub ba: Option<Corner>,
 }
 
 // What the search from x to y has found once it has seen the corner k, whose edge runs from tail to head: the first is kept.
-fn note(o: u32, k: u32, tail: u32, head: u32, x: u32, y: u32) -> u32
-    ensures { result ≡ noted o k tail head x y }
+#[tactic(auto, unfolding(crate::specs::Search::noted))]
+fn note(
+    o: Option<Corner>,
+    k: Corner,
+    tail: Vertex,
+    head: Vertex,
+    x: Vertex,
+    y: Vertex,
+) -> Option<Corner>
+    ensures { result ≡ noted o k.0 tail.0 head.0 x.0 y.0 }
 {
-    if tail == x {
-        if head == y {
-            if o == 4294967295 {
-                return k;
-            }
-        }
+    if tail == x && head == y && o.is_none() {
+        Some(k)
+    } else {
+        o
     }
-    o
 }
 
 // All six searches at one corner.
-fn look(f: Found, k: u32, tail: u32, head: u32, a: u32, b: u32, c: u32) -> Found
-    ensures { result ≡ look_of f k tail head a b c }
+#[tactic(auto, unfolding(crate::specs::Search::look_of))]
+fn look(f: Found, k: Corner, tail: Vertex, head: Vertex, t: Triangle) -> Found
+    ensures { result ≡ look_of f k.0 tail.0 head.0 t.a.0 t.b.0 t.c.0 }
 {
-    let bc = note(f.bc, k, tail, head, b, c);
-    let ca = note(f.ca, k, tail, head, c, a);
-    let ab = note(f.ab, k, tail, head, a, b);
-    let cb = note(f.cb, k, tail, head, c, b);
-    let ac = note(f.ac, k, tail, head, a, c);
-    let ba = note(f.ba, k, tail, head, b, a);
     Found {
-        bc: bc,
-        ca: ca,
-        ab: ab,
-        cb: cb,
-        ac: ac,
-        ba: ba,
+        bc: note(f.bc, k, tail, head, t.b, t.c),
+        ca: note(f.ca, k, tail, head, t.c, t.a),
+        ab: note(f.ab, k, tail, head, t.a, t.b),
+        cb: note(f.cb, k, tail, head, t.c, t.b),
+        ac: note(f.ac, k, tail, head, t.a, t.c),
+        ba: note(f.ba, k, tail, head, t.b, t.a),
     }
 }
 
-fn among(x: u32, a: u32, b: u32, c: u32) -> bool
-    ensures { result ≡ among_of x a b c }
-{
-    if x == a {
-        return true;
+impl Triangle {
+    fn has(self, v: Vertex) -> bool
+        ensures { result ≡ among_of v.0 self.a.0 self.b.0 self.c.0 }
+    {
+        v == self.a || v == self.b || v == self.c
     }
-    if x == b {
-        return true;
+
+    // Is a vertex of the other face one of this one's?
+    fn touches(self, o: Triangle) -> bool
+        ensures { result ≡ touched o.a.0 o.b.0 o.c.0 self.a.0 self.b.0 self.c.0 }
+    {
+        self.has(o.a) || self.has(o.b) || self.has(o.c)
     }
-    x == c
 }
 
-fn touches(x: u32, y: u32, z: u32, a: u32, b: u32, c: u32) -> bool
-    ensures { result ≡ touched x y z a b c }
-{
-    if among(x, a, b, c) {
-        return true;
-    }
-    if among(y, a, b, c) {
-        return true;
-    }
-    among(z, a, b, c)
-}
-
-// The kept face from corner i on. Nearly all have none of the three vertices.
-fn look_face(cv: &[u32], i: u32, f: Found, a: u32, b: u32, c: u32) -> Found
+// The kept face from corner i on. Nearly all have none of the three vertices, and leave f as it is.
+fn look_face(cv: &[u32], i: u32, f: &mut Found, t: Triangle)
     requires { i + 2 < 4294967296 }
-    ensures { result ≡ face_look cv.now i a b c f }
+    ensures { f.new ≡ face_look cv.now i t.a.0 t.b.0 t.c.0 f.old }
 {
-    let k = i as usize;
-    let x = table::at(cv, k, 0);
-    let y = table::at(cv, k + 1, 0);
-    let z = table::at(cv, k + 2, 0);
-    if touches(x, y, z, a, b, c) {
-        let g = look(f, i, y, z, a, b, c);
-        let h = look(g, i + 1, z, x, a, b, c);
-        return look(h, i + 2, x, y, a, b, c);
+    let (first, second, third) = (Corner(i), Corner(i + 1), Corner(i + 2));
+    let kept = Triangle {
+        a: table::vertex_of(cv, first),
+        b: table::vertex_of(cv, second),
+        c: table::vertex_of(cv, third),
+    };
+    if t.touches(kept) {
+        let g = look(*f, first, kept.b, kept.c, t);
+        let h = look(g, second, kept.c, kept.a, t);
+        *f = look(h, third, kept.a, kept.b, t);
     }
-    f
 }
 
-// One pass over the kept corners.
-pub fn find_edges(cv: &[u32], n: u32, a: u32, b: u32, c: u32) -> Found
+// One pass over the kept faces.
+pub fn find_edges(cv: &[u32], n: u32, t: Triangle) -> Found
     requires n_bound { n < 4294967293 }
     requires n_value { n % 3 ≡ 0 }
-    ensures { result ≡ sought cv.now n a b c }
+    ensures { result ≡ sought cv.now n t.a.0 t.b.0 t.c.0 }
 {
     let mut f = Found {
-        bc: 4294967295,
-        ca: 4294967295,
-        ab: 4294967295,
-        cb: 4294967295,
-        ac: 4294967295,
-        ba: 4294967295,
+        bc: None,
+        ca: None,
+        ab: None,
+        cb: None,
+        ac: None,
+        ba: None,
     };
-    let mut i: u32 = 0;
-    while i < n {
-        f = look_face(cv, i, f, a, b, c);
-        i += 3;
+    for k in 0..n / 3 {
+        look_face(cv, 3 * k, &mut f, t);
     }
     f
+}
+
+impl Found {
+    // Does a kept face have one of the face's three directed edges?
+    pub fn taken(self) -> bool
+        ensures { result ≡ taken_by self }
+    {
+        self.bc.is_some() || self.ca.is_some() || self.ab.is_some()
+    }
 }
 
 // ---- what is asked of a face
 
-pub fn known(count: u32, a: u32, b: u32, c: u32) -> bool
-    ensures { result ≡ known_of count a b c }
-{
-    if a < count {
-        if b < count {
-            return c < count;
-        }
+impl Triangle {
+    pub fn known(self, count: u32) -> bool
+        ensures { result ≡ known_of count self.a.0 self.b.0 self.c.0 }
+    {
+        self.a.0 < count && self.b.0 < count && self.c.0 < count
     }
-    false
+
+    pub fn repeated(self) -> bool
+        ensures { result ≡ repeated_of self.a.0 self.b.0 self.c.0 }
+    {
+        self.a == self.b || self.b == self.c || self.c == self.a
+    }
 }
 
-pub fn repeated(a: u32, b: u32, c: u32) -> bool
-    ensures { result ≡ repeated_of a b c }
-{
-    if a == b {
-        return true;
-    }
-    if b == c {
-        return true;
-    }
-    c == a
-}
-
-// An index that is no vertex, 2, before two equal ones, 3; or 0.
-pub fn refusal(unknown: bool, twice: bool) -> u32
-    ensures { result ≡ cond unknown 2 (cond twice 3 0) }
+// An index that is no vertex before two equal ones.
+pub fn refusal(unknown: bool, twice: bool) -> Result<(), Refusal>
+    ensures { answer_of result ≡ cond unknown 2 (cond twice 3 0) }
 {
     if unknown {
-        return 2;
+        return Err(Refusal::UnknownVertex);
     }
     if twice {
-        return 3;
+        return Err(Refusal::RepeatedVertex);
     }
-    0
-}
-
-// Does a kept face have one of the face's three directed edges?
-pub fn taken(bc: u32, ca: u32, ab: u32) -> bool
-    ensures { result ≡ taken_by bc ca ab }
-{
-    if bc != 4294967295 {
-        return true;
-    }
-    if ca != 4294967295 {
-        return true;
-    }
-    ab != 4294967295
+    Ok(())
 }
 
 // ---- what is asked of the points
 
-// More points than room, 5, before a point not finite, 4; or 0.
-pub fn points_refusal(over: bool, infinite: bool) -> u32
-    ensures { result ≡ cond over 5 (cond infinite 4 0) }
+// More points than room before a point not finite.
+pub fn points_refusal(over: bool, infinite: bool) -> Result<(), Refusal>
+    ensures { answer_of result ≡ cond over 5 (cond infinite 4 0) }
 {
     if over {
-        return 5;
+        return Err(Refusal::NoVertexRoom);
     }
     if infinite {
-        return 4;
+        return Err(Refusal::NotFinite);
     }
-    0
+    Ok(())
 }

@@ -3,26 +3,22 @@
 
 ghost use Rattle.std.specs.Prelude.{◌≡◌, ◌+◌, ◌<◌, ◌≤◌, ◌%◌, length, set};
 ghost use Rattle.std.proofs.lemmas.List.Edits.{sets};
+ghost use Rattle.corner.specs.Told.{told};
 ghost use Rattle.table.specs.Slots.{with_pair};
 ghost use Rattle.builder_build.specs.Build.{all_finite, face as face_of, faces as faces_of};
 ghost use Rattle.builder_faces.specs.Steps.{so_far, stepped};
 
-use builder_edges::{find_edges, known, refusal, repeated, taken};
+use builder_edges::{Found, Triangle, find_edges, refusal};
 use corner::Corner;
+use refusal::Refusal;
+use vertex::Vertex;
 
 // ---- points
 
 pub fn all_finite(points: &[f32]) -> bool
     ensures { result ≡ all_finite points.now }
 {
-    let mut i: usize = 0;
-    while i < points.len() {
-        if !vertex::is_finite(points[i]) {
-            return false;
-        }
-        i += 1;
-    }
-    true
+    points.iter().all(|x| vertex::is_finite(*x))
 }
 
 // The points into the first slots.
@@ -30,106 +26,80 @@ pub fn add_vertices(vp: &mut [f32], points: &[f32])
     requires { length points.now ≤ length vp.old }
     ensures { vp.new ≡ sets vp.old 0 points.now }
 {
-    let mut i: usize = 0;
-    while i < points.len() {
-        vp[i] = points[i];
-        i += 1;
-    }
+    vp[..points.len()].copy_from_slice(points);
 }
 
 // ---- one face
 
-// A corner and the one whose edge runs the other way, if there is one: each is the other's opposite.
-fn pair(co: &mut [u32], c: u32, o: u32)
-    ensures { co.new ≡ with_pair co.old c o }
+fn or_absent(o: Option<Corner>) -> Corner
+    ensures { result.0 ≡ told o }
 {
-    table::make_corners_opposite(co, Corner(c), Corner(o));
+    o.unwrap_or(Corner::ABSENT)
 }
 
-// Each new corner with its mate.
-fn set_opposites(co: &mut [u32], n: u32, cb: u32, ac: u32, ba: u32)
+// Each new corner with its mate, the corner whose edge runs the other way, if there is one.
+fn set_opposites(co: &mut [u32], n: u32, f: Found)
     requires { n + 3 < 4294967296 }
-    ensures { co.new ≡ with_pair (with_pair (with_pair co.old n cb) (n + 1) ac) (n + 2) ba }
+    ensures { co.new ≡ with_pair (with_pair (with_pair co.old n (told f.cb)) (n + 1) (told f.ac)) (n + 2) (told f.ba) }
 {
-    pair(co, n, cb);
-    pair(co, n + 1, ac);
-    pair(co, n + 2, ba);
+    table::make_corners_opposite(co, Corner(n), or_absent(f.cb));
+    table::make_corners_opposite(co, Corner(n + 1), or_absent(f.ac));
+    table::make_corners_opposite(co, Corner(n + 2), or_absent(f.ba));
 }
 
 // A vertex's corner is the last one made for it.
-fn make_last(vc: &mut [u32], v: u32, c: u32)
-    ensures { vc.new ≡ set vc.old v c }
-{
-    table::put(vc, v as usize, c);
-}
-
-fn set_corners(vc: &mut [u32], n: u32, a: u32, b: u32, c: u32)
+fn set_corners(vc: &mut [u32], n: u32, t: Triangle)
     requires { n + 3 < 4294967296 }
-    ensures { vc.new ≡ set (set (set vc.old a n) b (n + 1)) c (n + 2) }
+    ensures { vc.new ≡ set (set (set vc.old t.a.0 n) t.b.0 (n + 1)) t.c.0 (n + 2) }
 {
-    make_last(vc, a, n);
-    make_last(vc, b, n + 1);
-    make_last(vc, c, n + 2);
+    table::set_corner(vc, t.a, Corner(n));
+    table::set_corner(vc, t.b, Corner(n + 1));
+    table::set_corner(vc, t.c, Corner(n + 2));
 }
 
+// How many corners the faces so far have made, and how many faces were skipped.
 #[derive(Clone, Copy)]
 pub struct Added {
-    pub answer: u32,
     pub corners: u32,
     pub skipped: usize,
 }
 
-// One face: refused, skipped or kept.
+// One face: refused, skipped or kept. The three parts go one by one, and not as a `Lent`: so no clause has to say that the others stay.
 fn add_face(
     cv: &mut [u32],
     co: &mut [u32],
     vc: &mut [u32],
     count: u32,
     room: u32,
-    n: u32,
-    skipped: usize,
-    a: u32,
-    b: u32,
-    c: u32,
-) -> Added
+    k: Added,
+    t: Triangle,
+) -> Result<Added, Refusal>
     requires room_bound { room < 4294967293 }
-    requires n_le_room { n ≤ room }
-    requires n_value { n % 3 ≡ 0 }
-    requires skipped_bound { skipped + 1 < 18446744073709551616 }
-    ensures { stepped result.answer (so_far cv.new co.new vc.new result.corners result.skipped)
-        ≡ face_of count room (so_far cv.old co.old vc.old n skipped) a b c }
+    requires n_le_room { k.corners ≤ room }
+    requires n_value { k.corners % 3 ≡ 0 }
+    requires skipped_bound { k.skipped + 1 < 18446744073709551616 }
+    ensures { stepped result cv.new co.new vc.new
+        ≡ face_of count room (so_far cv.old co.old vc.old k.corners k.skipped) t.a.0 t.b.0 t.c.0 }
 {
-    let wrong = refusal(!known(count, a, b, c), repeated(a, b, c));
-    if wrong != 0 {
-        return Added {
-            answer: wrong,
+    refusal(!t.known(count), t.repeated())?;
+    let n = k.corners;
+    let f = find_edges(cv, n, t);
+    if f.taken() {
+        return Ok(Added {
             corners: n,
-            skipped: skipped,
-        };
-    }
-    let f = find_edges(cv, n, a, b, c);
-    if taken(f.bc, f.ca, f.ab) {
-        return Added {
-            answer: 0,
-            corners: n,
-            skipped: skipped + 1,
-        };
+            skipped: k.skipped + 1,
+        });
     }
     if room < n + 3 {
-        return Added {
-            answer: 6,
-            corners: n,
-            skipped: skipped,
-        };
+        return Err(Refusal::NoCornerRoom);
     }
-    table::put_three(cv, n, a, b, c);
-    set_opposites(co, n, f.cb, f.ac, f.ba);
-    set_corners(vc, n, a, b, c);
-    Added {
-        answer: 0,
+    table::put_new(cv, n, [t.a.0, t.b.0, t.c.0]);
+    set_opposites(co, n, f);
+    set_corners(vc, n, t);
+    Ok(Added {
         corners: n + 3,
-        skipped: skipped,
-    }
+        skipped: k.skipped,
+    })
 }
 
 // All faces, in triples; one or two indices left at the end are ignored.
@@ -140,29 +110,23 @@ pub fn add_faces(
     count: u32,
     room: u32,
     faces: &[u32],
-) -> Added
+) -> Result<Added, Refusal>
     requires { room < 4294967293 }
-    ensures { stepped result.answer (so_far cv.new co.new vc.new result.corners result.skipped)
+    ensures { stepped result cv.new co.new vc.new
         ≡ faces_of count room (so_far cv.old co.old vc.old 0 0) faces.now }
 {
-    let mut i: usize = 0;
-    let mut n: u32 = 0;
-    let mut skipped: usize = 0;
-    while faces.len() - i > 2 {
-        let a = faces[i];
-        let b = faces[i + 1];
-        let c = faces[i + 2];
-        let s = add_face(cv, co, vc, count, room, n, skipped, a, b, c);
-        if s.answer != 0 {
-            return s;
-        }
-        n = s.corners;
-        skipped = s.skipped;
-        i += 3;
+    let mut added = Added {
+        corners: 0,
+        skipped: 0,
+    };
+    let (triples, _) = faces.as_chunks::<3>();
+    for &[a, b, c] in triples {
+        let t = Triangle {
+            a: Vertex(a),
+            b: Vertex(b),
+            c: Vertex(c),
+        };
+        added = add_face(cv, co, vc, count, room, added, t)?;
     }
-    Added {
-        answer: 0,
-        corners: n,
-        skipped: skipped,
-    }
+    Ok(added)
 }

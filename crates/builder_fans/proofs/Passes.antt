@@ -1,5 +1,5 @@
 -- The loops over vertices, corners and chains, and the small steps in them. Assumes nothing.
-use mathlib.Core.Path.{◌≡◌, refl, ap, sym, ◌∙◌}
+use mathlib.Core.Path.{◌≡◌, refl, ap, sym, ◌∙◌, subst}
 use mathlib.Core.Bool.{Bool, true, false, cond}
 use mathlib.Core.List.{List, [], ◌∷◌}
 use Prim.Native.Nat.{ℕ, zero, suc, ◌+◌, ◌-◌, ◌≤◌, ◌<◌}
@@ -8,11 +8,16 @@ use borrow.Author.Tests.{eq-eqb, ne_eqb, lt-ltb, le-ltb}
 use lib.Dec.{eqb}
 use lib.Ieee.{Float}
 use lib.ListN.{length, get_or, set}
-use Rattle.corner.specs.Corner.{absent}
+use Rattle.std.proofs.Common.{Result, Ok, Err}
+use Rattle.refusal.specs.declared.Refusal.{Refusal}
+use Rattle.refusal.specs.Refusal.{number_of}
+use Rattle.table.specs.declared.Lent.{Lent}
+use Rattle.table.specs.Parts.{SameParts}
+use Rattle.table.specs.Table.{Table, vertex_room}
 use Rattle.vertex.specs.declared.Point.{Point}
 use Rattle.table.specs.Slots.{relabel, point_at, with_point}
 use Rattle.builder_build.specs.Build.{Shared, give, isolated}
-use Rattle.builder_fans.specs.Chains.{shared, Ended, threads, thread_of, threaded, chain, mark_of, marked, step_of, takes, vertex_of, spread_over, isolate_of}
+use Rattle.builder_fans.specs.Chains.{shared, shared_of, with_shared, Roomy, SameRooms, Ended, rings, chain_from, chain_of, threads, thread_of, threaded, chain, mark_of, marked, step_of, takes, vertex_of, spread_over, isolate_of}
 
 -- ---- the fans that are kept
 
@@ -25,25 +30,7 @@ module _ (ring : ℕ → List ℕ) (vc : List ℕ) where
   unfolding marked mark_of
   marked_suc k v m = refl
 
-  pub mark_not : (v c : ℕ) (m : List ℕ) → c ≡ get_or vc v absent → c ≡ absent → m ≡ mark_of ring vc v m
-  unfolding mark_of
-  mark_not v c m e h = rw (← e, eq-eqb c absent h)
-
-  pub mark_does : (v c : ℕ) (m m' : List ℕ) → c ≡ get_or vc v absent → (c ≡ absent → ⊥) → m' ≡ relabel (ring c) 1 m → m' ≡ mark_of ring vc v m
-  unfolding mark_of
-  mark_does v c m m' e h g = rw (← e, ne_eqb c absent h) g
-
 -- ---- threading
-
-module _ (cv : List ℕ) (c : ℕ) (link head : List ℕ) (p : ℕ) (is : p ≡ get_or link c 0) where
-  pub thread_not : (p ≡ 0 → ⊥) → threads link head ≡ thread_of cv c (threads link head)
-  unfolding thread_of
-  thread_not h = rw (← is, ne_eqb p 0 h)
-
-  pub thread_does : p ≡ 0 → (v x : ℕ) (link' head' : List ℕ) → v ≡ get_or cv c 0 → x ≡ get_or head v 0 → link' ≡ set link c x
-      → head' ≡ set head v (c + 2) → threads link' head' ≡ thread_of cv c (threads link head)
-  unfolding thread_of
-  thread_does h v x link' head' a b d e = rw (← is, eq-eqb p 0 h, ← a, ← b) (rw (d, e))
 
 module _ (cv : List ℕ) where
   -- the loop has threaded the corners from c on
@@ -76,26 +63,40 @@ module _ (cv : List ℕ) where
 
 -- ---- a new vertex
 
-pub given : (ring : ℕ → List ℕ) (v c u : ℕ) (cv vc cv' vc' : List ℕ) (vp vp' : List Float) (p : Point)
-    → cv' ≡ relabel (ring c) u cv → vc' ≡ set vc u c → p ≡ point_at vp v → vp' ≡ with_point vp u p
-    → shared cv' vc' vp' (u + 1) ≡ give ring v c (shared cv vc vp u)
+pub given : (t : Table) (v c : ℕ) (cv' vc' : List ℕ) (vp' : List Float) (p : Point)
+    → cv' ≡ relabel (rings t c) t.vertices t.corner_vertex → vc' ≡ set t.vertex_corner t.vertices c → p ≡ point_at t.vertex_point v
+    → vp' ≡ with_point t.vertex_point t.vertices p
+    → with_shared t (shared cv' vc' vp' (t.vertices + 1)) ≡ with_shared t (give (rings t) v c (shared_of t))
 unfolding give
-given ring v c u cv vc cv' vc' vp vp' p a b d e = rw (a, b, e, d)
+given t v c cv' vc' vp' p a b d e = rw (a, b, e, d)
 
-module _ (ring : ℕ → List ℕ) (room v c u x : ℕ) (cv vc : List ℕ) (vp : List Float) (is : x ≡ get_or cv c 0) where
-  pub step_not : u ≤ room → (x ≡ v → ⊥) → Ended room (step_of ring v c (shared cv vc vp u)) cv vc vp u
+module _ (t : Table) (v c x : ℕ) (is : x ≡ get_or t.corner_vertex c 0) where
+  pub step_not : t.vertices ≤ vertex_room t → (x ≡ v → ⊥) → Ended t (step_of (rings t) v c (shared_of t)) t (Ok (tt {0}))
   unfolding step_of
-  step_not l e = record { fits = λ _. rw (← is, ne_eqb x v e); full = λ g. absurd (omega arith) }
+  step_not l e = rw (← is, ne_eqb x v e) (refl, l)
 
-  pub step_full : x ≡ v → u ≡ room → (cv' vc' : List ℕ) (vp' : List Float) → Ended room (step_of ring v c (shared cv vc vp u)) cv' vc' vp' (room + 1)
+  pub step_full : x ≡ v → t.vertices ≡ vertex_room t → (u : Table) (e : Refusal) → number_of e ≡ 5 → Ended {A = Unit {0}} t (step_of (rings t) v c (shared_of t)) u (Err e)
   unfolding give step_of
-  step_full e z cv' vc' vp' = record { fits = λ g. absurd (omega arith); full = λ _. rw (← is, eq-eqb x v e) (omega arith) }
+  step_full e z u r n = rw (← is, eq-eqb x v e) (n, omega arith)
 
-  pub step_gives : x ≡ v → u ≤ room → (u ≡ room → ⊥) → (cv' vc' : List ℕ) (vp' : List Float)
-      → shared cv' vc' vp' (u + 1) ≡ give ring v c (shared cv vc vp u)
-      → Ended room (step_of ring v c (shared cv vc vp u)) cv' vc' vp' (u + 1)
-  unfolding step_of
-  step_gives e l z cv' vc' vp' g = record { fits = λ _. rw (← is, eq-eqb x v e) g; full = λ h. absurd (omega arith) }
+  pub step_gives : x ≡ v → t.vertices ≤ vertex_room t → (t.vertices ≡ vertex_room t → ⊥) → (u : Table)
+      → u ≡ with_shared t (give (rings t) v c (shared_of t)) → Ended t (step_of (rings t) v c (shared_of t)) u (Ok (tt {0}))
+  unfolding give step_of
+  step_gives e l z u g = rw (← is, eq-eqb x v e) (g, omega arith)
+
+-- ---- what a pass leaves as it was
+
+pub same_rooms : (t : Table) → SameRooms t t
+same_rooms t = record { cv = refl; co = refl; cm = refl; vc = refl; vm = refl; vp = refl }
+
+pub rooms_on : (t u w : Table) → SameRooms t u → SameRooms u w → SameRooms t w
+rooms_on t u w P Q = record { cv = Q.cv ∙ P.cv; co = Q.co ∙ P.co; cm = Q.cm ∙ P.cm; vc = Q.vc ∙ P.vc; vm = Q.vm ∙ P.vm; vp = Q.vp ∙ P.vp }
+
+pub framed : (t u w : Table) (s : Shared) → u ≡ with_shared t (shared_of u) → w ≡ with_shared u s → w ≡ with_shared t (shared_of w)
+framed t u w s p q = q ∙ ap (λ (x : Table). with_shared x s) p ∙ sym (ap (λ (x : Table). with_shared t (shared_of x)) q)
+
+pub parts_on : (s t u : Lent) → SameParts s t → SameParts t u → SameParts s u
+parts_on s t u p q = (q.0 ∙ p.0, q.1 ∙ p.1, q.2 ∙ p.2, q.3 ∙ p.3, q.4 ∙ p.4, q.5 ∙ p.5)
 
 -- ---- a chain
 
@@ -136,61 +137,69 @@ module _ (ring : ℕ → List ℕ) (v : ℕ) where
   unfolding takes
   takes_more c cs s = refl
 
-  module _ (link : List ℕ) (room : ℕ) where
-    -- the loop stands at h with so many left
-    pub record Taking (whole : Shared) (cv₀ vc₀ cv vc : List ℕ) (vp₀ vp : List Float) (h rest u : ℕ) : Type 0 where
-      pub cv_length : length cv ≡ length cv₀
-      pub vc_length : length vc ≡ length vc₀
-      pub vp_length : length vp ≡ length vp₀
-      pub few : u ≤ room
-      pub small : h < 4294967296
-      pub same : takes ring v (chain link rest h) (shared cv vc vp u) ≡ whole
+-- a loop along a chain of t₀ stands at h, with so many left
+pub record Taking (t₀ : Table) (v : ℕ) (whole : Shared) (h rest : ℕ) (t : Table) : Type 0 where
+  pub rooms : SameRooms t₀ t
+  pub frame : t ≡ with_shared t₀ (shared_of t)
+  pub few : t.vertices ≤ vertex_room t₀
+  pub small : h < 4294967296
+  pub same : takes (rings t₀) v (chain t₀.corner_mark rest h) (shared_of t) ≡ whole
 
-    module _ (whole : Shared) (cv₀ vc₀ cv vc : List ℕ) (vp₀ vp : List Float) (h rest u : ℕ) (T : Taking whole cv₀ vc₀ cv vc vp₀ vp h rest u) where
-      ended : chain link rest h ≡ [] → Ended room whole cv vc vp u
-      ended e =
-          record {
-            fits = λ _. sym (takes_none (shared cv vc vp u)) ∙ sym (ap (λ (cs : List ℕ). takes ring v cs (shared cv vc vp u)) e) ∙ T.same;
-            full = λ l. absurd (omega (arith, T.few));
-          }
+pub taking_start : (t : Table) (v h : ℕ) → t.vertices ≤ vertex_room t → h < 4294967296 → Taking t v (chain_from t v h (shared_of t)) h t.corners t
+taking_start t v h l m = record { rooms = same_rooms t; frame = refl; few = l; small = m; same = refl }
 
-      pub taking_stop : h < 2 → Ended room whole cv vc vp u
-      taking_stop l = ended (chain_stop link rest h l)
+module _ (t₀ : Table) (v : ℕ) (whole : Shared) (h rest : ℕ) (t : Table) (T : Taking t₀ v whole h rest t) where
+  ended : chain t₀.corner_mark rest h ≡ [] → Ended t₀ whole t (Ok (tt {0}))
+  ended e = by (sym (takes_none (rings t₀) v (shared_of t)) ∙ sym (ap (λ (cs : List ℕ). takes (rings t₀) v cs (shared_of t)) e) ∙ T.same)
+    where
+      by : shared_of t ≡ whole → Ended t₀ whole t (Ok (tt {0}))
+      by z = (T.frame ∙ ap (with_shared t₀) z, subst (λ (s : Shared). s.nv ≤ vertex_room t₀) z T.few)
 
-      pub taking_out : rest ≤ 0 → Ended room whole cv vc vp u
-      taking_out l = ended (chain_out link rest h (omega arith))
+  pub taking_stop : h < 2 → Ended t₀ whole t (Ok (tt {0}))
+  taking_stop l = ended (chain_stop t₀.corner_mark rest h l)
 
-      module _ (a : 0 < rest) (l : 2 ≤ h) (cv' vc' : List ℕ) (vp' : List Float) (r : ℕ)
-          (E : Ended room (step_of ring v (h - 2) (shared cv vc vp u)) cv' vc' vp' r) where
-        on : takes ring v (chain link (rest - 1) (get_or link (h - 2) 0)) (step_of ring v (h - 2) (shared cv vc vp u)) ≡ whole
-        on =
-            sym (takes_more (h - 2) (chain link (rest - 1) (get_or link (h - 2) 0)) (shared cv vc vp u))
-            ∙ sym (ap (λ (cs : List ℕ). takes ring v cs (shared cv vc vp u)) (chain_more link rest h a l)) ∙ T.same
+  pub taking_out : rest ≤ 0 → Ended t₀ whole t (Ok (tt {0}))
+  taking_out l = ended (chain_out t₀.corner_mark rest h (omega arith))
 
-        pub taking_full : room < r → Ended room whole cv' vc' vp' r
-        taking_full g =
-            record {
-              fits = λ z. absurd (omega arith);
-              full =
-                  λ _. rw (← on)
-                  (omega (
-                    arith,
-                    E.full g,
-                    takes_grow (chain link (rest - 1) (get_or link (h - 2) 0)) (step_of ring v (h - 2) (shared cv vc vp u)),
-                  ));
-            }
+  pub taking_roomy : Roomy t₀ → Roomy t
+  taking_roomy R = record { most = omega (arith, T.rooms.vm, R.most); few = omega (arith, T.rooms.vm, T.few) }
 
-        pub taking_on : r ≤ room → length cv' ≡ length cv → length vc' ≡ length vc → length vp' ≡ length vp → (h' : ℕ)
-            → h' ≡ get_or link (h - 2) 0 → h' < 4294967296 → Taking whole cv₀ vc₀ cv' vc' vp₀ vp' h' (rest - 1) r
-        taking_on g p q z h' e m =
-            record {
-              cv_length = p ∙ T.cv_length;
-              vc_length = q ∙ T.vc_length;
-              vp_length = z ∙ T.vp_length;
-              few = g;
-              small = m;
-              same = rw e (ap (takes ring v (chain link (rest - 1) (get_or link (h - 2) 0))) (E.fits g) ∙ on);
-            }
+  module _ (a : 0 < rest) (l : 2 ≤ h) where
+    on : takes (rings t₀) v (chain t₀.corner_mark (rest - 1) (get_or t₀.corner_mark (h - 2) 0)) (step_of (rings t₀) v (h - 2) (shared_of t)) ≡ whole
+    on =
+        sym (takes_more (rings t₀) v (h - 2) (chain t₀.corner_mark (rest - 1) (get_or t₀.corner_mark (h - 2) 0)) (shared_of t))
+        ∙ sym (ap (λ (cs : List ℕ). takes (rings t₀) v cs (shared_of t)) (chain_more t₀.corner_mark rest h a l)) ∙ T.same
+
+    -- a step on t is one on t₀
+    step_same : step_of (rings t) v (h - 2) (shared_of t) ≡ step_of (rings t₀) v (h - 2) (shared_of t)
+    step_same = ap (λ (u : Table). step_of (rings u) v (h - 2) (shared_of t)) T.frame
+
+    pub taking_full : vertex_room t < (step_of (rings t) v (h - 2) (shared_of t)).nv → vertex_room t₀ < whole.nv
+    taking_full g =
+        rw (← on)
+        (omega (
+          arith,
+          subst (λ (s : Shared). vertex_room t < s.nv) step_same g,
+          T.rooms.vm,
+          takes_grow (rings t₀) v (chain t₀.corner_mark (rest - 1) (get_or t₀.corner_mark (h - 2) 0)) (step_of (rings t₀) v (h - 2) (shared_of t)),
+        ))
+
+    pub taking_on : (u : Table) → SameRooms t u
+        → (u ≡ with_shared t (step_of (rings t) v (h - 2) (shared_of t))) × ((step_of (rings t) v (h - 2) (shared_of t)).nv ≤ vertex_room t)
+        → (h' : ℕ) → h' ≡ get_or u.corner_mark (h - 2) 0 → h' < 4294967296 → Taking t₀ v whole h' (rest - 1) u
+    taking_on u R g h' e m =
+        record {
+          rooms = rooms_on t₀ t u T.rooms R;
+          frame = framed t₀ t u _ T.frame g.0;
+          few = omega (arith, ap (λ (w : Table). w.vertices) g.0, g.1, T.rooms.vm);
+          small = m;
+          same =
+              ap (λ (k : ℕ). takes (rings t₀) v (chain t₀.corner_mark (rest - 1) k) (shared_of u))
+              (e ∙ ap (λ (w : Table). get_or w.corner_mark (h - 2) 0) (framed t₀ t u _ T.frame g.0))
+              ∙ ap (takes (rings t₀) v (chain t₀.corner_mark (rest - 1) (get_or t₀.corner_mark (h - 2) 0)))
+              (ap shared_of g.0 ∙ step_same)
+              ∙ on;
+        }
 
 -- ---- all vertices
 
@@ -207,10 +216,10 @@ module _ (ring : ℕ → List ℕ) (link head : List ℕ) (n : ℕ) where
   unfolding vertex_of
   vertex_grows v s = takes_grow ring v (chain link n (get_or head v 0)) s
 
-pub vertex_ends : (ring : ℕ → List ℕ) (link head : List ℕ) (n room v h : ℕ) (s : Shared) → h ≡ get_or head v 0 → (cv vc : List ℕ) (vp : List Float) (r : ℕ)
-    → Ended room (takes ring v (chain link n h) s) cv vc vp r → Ended room (vertex_of ring link head n v s) cv vc vp r
+pub vertex_ends : {A : Type 0} (t : Table) (v h : ℕ) → h ≡ get_or t.vertex_mark v 0 → (u : Table) (r : Result A Refusal)
+    → Ended t (chain_from t v h (shared_of t)) u r → Ended t (chain_of t v (shared_of t)) u r
 unfolding vertex_of
-vertex_ends ring link head n room v h s e cv vc vp r E = rw (← e) E
+vertex_ends t v h e u r E = rw (← e) E
 
 -- ---- deleted vertices
 
@@ -222,11 +231,3 @@ module _ (vc : List ℕ) where
   pub isolated_suc : (k v : ℕ) (m : List ℕ) → isolated vc (suc k) v m ≡ isolated vc k (suc v) (isolate_of vc v m)
   unfolding isolated isolate_of
   isolated_suc k v m = refl
-
-  pub isolate_does : (v c : ℕ) (m m' : List ℕ) → c ≡ get_or vc v absent → c ≡ absent → m' ≡ set m v 1 → m' ≡ isolate_of vc v m
-  unfolding isolate_of
-  isolate_does v c m m' e h g = rw (← e, eq-eqb c absent h) g
-
-  pub isolate_not : (v c : ℕ) (m : List ℕ) → c ≡ get_or vc v absent → (c ≡ absent → ⊥) → m ≡ isolate_of vc v m
-  unfolding isolate_of
-  isolate_not v c m e h = rw (← e, ne_eqb c absent h)

@@ -1,14 +1,15 @@
 -- A loop that runs a step over i, i + 1, .., and one that stops where the vertices don't fit. Assumes nothing.
-use mathlib.Core.Path.{◌≡◌, refl, ap, sym, ◌∙◌}
+use mathlib.Core.Path.{◌≡◌, refl, ap, sym, ◌∙◌, subst}
 use mathlib.Core.List.{List}
 use Prim.Native.Nat.{ℕ, zero, suc, ◌+◌, ◌-◌, ◌≤◌, ◌<◌}
 use native.Mathlib.Omega.{arith}
 use native.Mathlib.Numerals.{add-one}
 use native.Mathlib.Nat.{sub-zero}
-use lib.Ieee.{Float}
-use lib.ListN.{length}
+use Rattle.std.proofs.Common.{Ok}
+use Rattle.table.specs.Table.{Table, vertex_room}
 use Rattle.builder_build.specs.Build.{Shared}
-use Rattle.builder_fans.specs.Chains.{shared, Ended}
+use Rattle.builder_fans.specs.Chains.{shared_of, with_shared, Roomy, SameRooms, Ended, rings, vertex_of, spread_over, chain_of, chains_of}
+use Rattle.builder_fans.proofs.Passes.{spread_over_zero, spread_over_suc, vertex_grows, same_rooms, rooms_on, framed}
 
 module _ {A : Type 0} (step : ℕ → A → A) (run : ℕ → ℕ → A → A) (run-zero : (i : ℕ) (s : A) → run 0 i s ≡ s)
     (run-suc : (k i : ℕ) (s : A) → run (suc k) i s ≡ run k (suc i) (step i s)) (n : ℕ) where
@@ -25,44 +26,69 @@ module _ {A : Type 0} (step : ℕ → A → A) (run : ℕ → ℕ → A → A) (
   pub run_start : (s : A) → run (n - 0) 0 s ≡ run n 0 s
   run_start s = rw sub-zero
 
--- one that stops where the vertices don't fit
-module _ (step : ℕ → Shared → Shared) (run : ℕ → ℕ → Shared → Shared) (run-zero : (i : ℕ) (s : Shared) → run 0 i s ≡ s)
-    (run-suc : (k i : ℕ) (s : Shared) → run (suc k) i s ≡ run k (suc i) (step i s)) (grows : (i : ℕ) (s : Shared) → s.nv ≤ (step i s).nv) (n room : ℕ) where
-  pub record Running (whole : Shared) (cv₀ vc₀ cv vc : List ℕ) (vp₀ vp : List Float) (i u : ℕ) : Type 0 where
-    pub cv_length : length cv ≡ length cv₀
-    pub vc_length : length vc ≡ length vc₀
-    pub vp_length : length vp ≡ length vp₀
-    pub low : i ≤ n
-    pub few : u ≤ room
-    pub same : run (n - i) i (shared cv vc vp u) ≡ whole
+-- the loop over the vertices of t₀, which stops where the new ones don't fit
+spread_grows : (ring : ℕ → List ℕ) (link head : List ℕ) (n k v : ℕ) (s : Shared) → s.nv ≤ (spread_over ring link head n k v s).nv
+spread_grows ring link head n zero v s = rw (spread_over_zero ring link head n v s) (omega arith)
+spread_grows ring link head n (suc k) v s =
+    rw (spread_over_suc ring link head n k v s)
+    (omega (arith, vertex_grows ring link head n v s, spread_grows ring link head n k (suc v) (vertex_of ring link head n v s)))
 
-  pub run_grows : (k i : ℕ) (s : Shared) → s.nv ≤ (run k i s).nv
-  run_grows zero i s = rw (run-zero i s) (omega arith)
-  run_grows (suc k) i s = rw (run-suc k i s) (omega (arith, grows i s, run_grows k (suc i) (step i s)))
+module _ (t₀ : Table) where
+  abbrev step : ℕ → Shared → Shared
+  step = chain_of t₀
 
-  pub running_start : (cv vc : List ℕ) (vp : List Float) (u : ℕ) → u ≤ room → Running (run n 0 (shared cv vc vp u)) cv vc cv vc vp vp 0 u
-  running_start cv vc vp u h = record { cv_length = refl; vc_length = refl; vp_length = refl; low = omega arith; few = h; same = run_start step run run-zero run-suc n (shared cv vc vp u) }
+  abbrev run : ℕ → ℕ → Shared → Shared
+  run = chains_of t₀
 
-  module _ (whole : Shared) (cv₀ vc₀ cv vc : List ℕ) (vp₀ vp : List Float) (i u : ℕ) (R : Running whole cv₀ vc₀ cv vc vp₀ vp i u) where
-    pub running_end : n ≤ i → Ended room whole cv vc vp u
-    running_end h = record { fits = λ _. sym (run_end step run run-zero run-suc n i (shared cv vc vp u) h) ∙ R.same; full = λ l. absurd (omega (arith, R.few)) }
+  abbrev first : (v : ℕ) (s : Shared) → run 0 v s ≡ s
+  first = spread_over_zero (rings t₀) t₀.corner_mark t₀.vertex_mark t₀.corners
 
-    module _ (h : i < n) (cv' vc' : List ℕ) (vp' : List Float) (r : ℕ) (E : Ended room (step i (shared cv vc vp u)) cv' vc' vp' r) where
-      on : run (n - (i + 1)) (i + 1) (step i (shared cv vc vp u)) ≡ whole
-      on = sym (run_next step run run-zero run-suc n i (shared cv vc vp u) h) ∙ R.same
+  abbrev more : (k v : ℕ) (s : Shared) → run (suc k) v s ≡ run k (suc v) (step v s)
+  more = spread_over_suc (rings t₀) t₀.corner_mark t₀.vertex_mark t₀.corners
 
-      pub running_full : room < r → Ended room whole cv' vc' vp' r
-      running_full l = record {
-        fits = λ g. absurd (omega arith);
-        full = λ _. rw (← on) (omega (arith, E.full l, run_grows (n - (i + 1)) (i + 1) (step i (shared cv vc vp u))));
-      }
+  pub record Running (whole : Shared) (i : ℕ) (t : Table) : Type 0 where
+    pub rooms : SameRooms t₀ t
+    pub frame : t ≡ with_shared t₀ (shared_of t)
+    pub few : t.vertices ≤ vertex_room t₀
+    pub same : run (t₀.vertices - i) i (shared_of t) ≡ whole
 
-      pub running_on : r ≤ room → length cv' ≡ length cv → length vc' ≡ length vc → length vp' ≡ length vp → Running whole cv₀ vc₀ cv' vc' vp₀ vp' (i + 1) r
-      running_on l p q z = record {
-        cv_length = p ∙ R.cv_length;
-        vc_length = q ∙ R.vc_length;
-        vp_length = z ∙ R.vp_length;
-        low = omega arith;
-        few = l;
-        same = ap (run (n - (i + 1)) (i + 1)) (E.fits l) ∙ on;
-      }
+  pub running_start : t₀.vertices ≤ vertex_room t₀ → Running (run t₀.vertices 0 (shared_of t₀)) 0 t₀
+  running_start l = record { rooms = same_rooms t₀; frame = refl; few = l; same = run_start step run first more t₀.vertices (shared_of t₀) }
+
+  module _ (whole : Shared) (i : ℕ) (t : Table) (R : Running whole i t) where
+    pub running_end : t₀.vertices ≤ i → Ended t₀ whole t (Ok (tt {0}))
+    running_end h = by (sym (run_end step run first more t₀.vertices i (shared_of t) h) ∙ R.same)
+      where
+        by : shared_of t ≡ whole → Ended t₀ whole t (Ok (tt {0}))
+        by z = (R.frame ∙ ap (with_shared t₀) z, subst (λ (s : Shared). s.nv ≤ vertex_room t₀) z R.few)
+
+    pub running_roomy : Roomy t₀ → Roomy t
+    running_roomy S = record { most = omega (arith, R.rooms.vm, S.most); few = omega (arith, R.rooms.vm, R.few) }
+
+    -- a step on t is one on t₀
+    step_same : chain_of t i (shared_of t) ≡ step i (shared_of t)
+    step_same = ap (λ (u : Table). chain_of u i (shared_of t)) R.frame
+
+    module _ (h : i < t₀.vertices) where
+      on : run (t₀.vertices - (i + 1)) (i + 1) (step i (shared_of t)) ≡ whole
+      on = sym (run_next step run first more t₀.vertices i (shared_of t) h) ∙ R.same
+
+      pub running_full : vertex_room t < (chain_of t i (shared_of t)).nv → vertex_room t₀ < whole.nv
+      running_full l =
+          rw (← on)
+          (omega (
+            arith,
+            subst (λ (s : Shared). vertex_room t < s.nv) step_same l,
+            R.rooms.vm,
+            spread_grows (rings t₀) t₀.corner_mark t₀.vertex_mark t₀.corners (t₀.vertices - (i + 1)) (i + 1) (step i (shared_of t)),
+          ))
+
+      pub running_on : (u : Table) → SameRooms t u
+          → (u ≡ with_shared t (chain_of t i (shared_of t))) × ((chain_of t i (shared_of t)).nv ≤ vertex_room t) → Running whole (i + 1) u
+      running_on u S g =
+          record {
+            rooms = rooms_on t₀ t u R.rooms S;
+            frame = framed t₀ t u _ R.frame g.0;
+            few = omega (arith, ap (λ (w : Table). w.vertices) g.0, g.1, R.rooms.vm);
+            same = ap (run (t₀.vertices - (i + 1)) (i + 1)) (ap shared_of g.0 ∙ step_same) ∙ on;
+          }

@@ -6,6 +6,8 @@ use mathlib.Core.Bool.{Bool, true, false, cond}
 use native.Mathlib.Omega.{arith}
 use native.Mathlib.Decide.{ℕ_discrete}
 use borrow.Author.Count.{below_none, below_more}
+use Rattle.std.proofs.Common.{Option, Some, None, unwrap_or}
+use Rattle.std.specs.Option.{MatchOption}
 use Rattle.checker.specs.First.{first_from, first_bad}
 
 module _ (test : ℕ → Bool) where
@@ -24,11 +26,8 @@ module _ (test : ℕ → Bool) where
     pub within : i ≤ n
     pub passes : (j : ℕ) → j < i → test j ≡ true
 
-  pub passed_start : (n : ℕ) → Passed n 0
-  passed_start n = record { within = omega arith; passes = below_none _ }
-
-  pub passed_more : (n i : ℕ) → Passed n i → i < n → true ≡ test i → Passed n (i + 1)
-  passed_more n i p l h = record { within = omega arith; passes = below_more _ i p.passes (sym h) }
+  pub passed_more : (n i j : ℕ) → Passed n i → j ≡ i + 1 → i < n → true ≡ test i → Passed n j
+  passed_more n i j p e l h = record { within = omega arith; passes = λ k m. below_more _ i p.passes (sym h) k (omega arith) }
 
   pub passed_bad : (n i : ℕ) → Passed n i → false ≡ test i → i ≡ first_bad test n
   unfolding first_bad
@@ -37,6 +36,12 @@ module _ (test : ℕ → Bool) where
   pub passed_all : (n i : ℕ) → Passed n i → n ≤ i → i ≡ first_bad test n
   unfolding first_bad
   passed_all n i p h = sym (from_is n 0 i (omega arith) (omega (arith, p.within)) (λ j a b. p.passes j b) (λ l. absurd (omega arith)))
+
+  -- what a search of the indices below n finds
+  pub found : (n : ℕ) (r : Option ℕ) → MatchOption r ((k : ℕ) → 0 ≤ k → k < n → test k ≡ true)
+      (λ i. (0 ≤ i) × (i < n) × (test i ≡ false) × ((k : ℕ) → 0 ≤ k → k < i → test k ≡ true)) → unwrap_or r n ≡ first_bad test n
+  found n None h = passed_all n n (record { within = omega arith; passes = λ j l. h j (omega arith) l }) (omega arith)
+  found n (Some i) h = passed_bad n i (record { within = omega (arith, h.1); passes = λ j l. h.3 j (omega arith) l }) (sym h.2)
 
   -- and read back: the first bad index is at most n, each below it passes, and it fails where it is below n
   pub record First (n i : ℕ) : Type 0 where

@@ -21,7 +21,7 @@ use Rattle.checker_rules.proofs.Rules.{At, holds_at, at_holds}
 use Rattle.checker.specs.First.{first_bad}
 use Rattle.checker.specs.Order.{first_of, clean, passed, disagree, broken, ruled, verdict_of}
 use Rattle.checker.specs.Blame.{AllObey, Blames, Judged, unshaped, sound, blamed}
-use Rattle.checker.specs.declared.Verdict.{Verdict}
+use Rattle.checker.specs.Verdict.{Verdict}
 use Rattle.checker.proofs.First.{First, first_bad_lem, all_pass, pass_all}
 use Rattle.checker.proofs.Order.{clean_all, all_clean}
 use Rattle.checker.proofs.Keeping.{Before, counts, face_mark, corner_vertex_lem, face_vertex, opposites, vertex_corner_lem, fans_keep}

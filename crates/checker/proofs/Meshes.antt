@@ -16,7 +16,7 @@ use Rattle.checker_rules.specs.Tests.{counts_test, mark_test, face_test, vertex_
 use Rattle.checker_rules.specs.Tests.{corner_test, fan_test, point_test, holds}
 use Rattle.checker.specs.First.{first_from, first_bad}
 use Rattle.checker.specs.Order.{first_of, clean, passed, broken, ruled, verdict_of}
-use Rattle.checker.specs.declared.Verdict.{Verdict}
+use Rattle.checker.specs.Verdict.{Verdict}
 use Rattle.checker.proofs.Judge.{verdict_sound, seven_refutes}
 
 -- B with a count that isn't a multiple of 3

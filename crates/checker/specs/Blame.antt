@@ -10,7 +10,7 @@ use Rattle.checker_kinds.specs.declared.Test.{Test}
 use Rattle.checker_kinds.specs.declared.Test.TheVariants.{Counts, CornerMark, FaceMark, VertexMark, CornerVertex}
 use Rattle.checker_kinds.specs.declared.Test.TheVariants.{FaceVertex, Opposite, VertexCorner, CornerFan, Finite}
 use Rattle.checker.specs.Order.{passed, disagree, broken}
-use Rattle.checker.specs.declared.Verdict.{Verdict}
+use Rattle.checker.specs.Verdict.{Verdict}
 
 -- What the rules ask of a slot, one kind of slot after the other. A face goes by its first corner c, and has the corners c, c + 1, c + 2.
 unfoldable pub Obeys : Test → Table → ℕ → Type 0

@@ -6,7 +6,7 @@ use Rattle.checker_kinds.specs.Kinds.{tests, test_at, rule_of, span, slot_of}
 use Rattle.checker_kinds.specs.declared.Test.{Test}
 use Rattle.checker_rules.specs.Tests.{holds}
 use Rattle.checker.specs.First.{first_bad}
-use Rattle.checker.specs.declared.Verdict.{Verdict}
+use Rattle.checker.specs.Verdict.{Verdict}
 
 -- the first index that fails a test, and whether none does
 unfoldable pub first_of : Test → Table → ℕ

@@ -1,122 +1,75 @@
 // The checker: R1 to R6 on any table, the lowest broken rule and the lowest slot that breaks it. It only reads, and needs no memory.
 //
-// Each rule is one or two tests of a slot (`rules`); one loop finds the first slot that fails a test, and one the first test that fails.
-// Before that a quick pass over the faces (`quick`) settles R1 to R4 at once where nothing is broken.
+// Each rule is one or two tests of a slot (`rules`): the first test that fails at a slot is found, and the first slot where it does. Before
+// that a quick pass over the faces (`quick`) settles R1 to R4 at once where nothing is broken.
 //
 // The cost is of order n, but for R5's fans (`near`), which are of order n log n.
 #![tactic(auto)]
 
-ghost use Rattle.std.specs.Prelude.{◌≡◌};
-ghost use Rattle.table.specs.Lent.{counts_of, seen};
-ghost use Rattle.checker_rules.specs.Tests.{holds as holds_of};
-ghost use Rattle.checker.specs.First.{first_bad};
+ghost use Rattle.std.specs.Prelude.{◌≡◌, ◌<◌, IfSome, unwrap_or};
+ghost use Rattle.refusal.specs.Refusal.{number_of};
+ghost use Rattle.table.specs.Parts.{seen};
+ghost use Rattle.checker_kinds.specs.Kinds.{span};
 ghost use Rattle.checker.specs.Order.{first_of, ruled as ruled_of, verdict_of};
+ghost use Rattle.checker.specs.Told.{told, refusal_of};
 
-use checker_kinds::{Test, rule_of, slot_of, span, test_at};
-use checker_quick::passing;
+use checker_kinds::Test;
+use checker_quick::{SETTLED, passes};
 use checker_rules::holds;
-use table::Counts;
+use refusal::Refusal;
+use table::Seen;
 
-// Answer 0, 1 or 7. Rule and slot are 0 but for 7.
-#[derive(Clone, Copy)]
-pub struct Verdict {
-    pub answer: u32,
-    pub rule: u32,
-    pub slot: u32,
+// What is wrong with a table.
+#[derive(Clone, Copy, PartialEq, Eq)]
+pub enum Fault {
+    // The lent parts disagree in length, or a room is above the maximum.
+    Parts,
+    // The lowest broken rule, and the lowest slot that breaks it.
+    Broken { rule: u32, slot: u32 },
 }
 
-// ---- the loops: the first slot that fails a test, and the first test that a slot fails
-
-fn first_bad(
-    test: Test,
-    cv: &[u32],
-    co: &[u32],
-    cm: &[u32],
-    vc: &[u32],
-    vm: &[u32],
-    vp: &[f32],
-    nv: u32,
-    nc: u32,
-    n: u32,
-) -> u32
-    ensures { result ≡ first_bad (holds_of test (seen cv co cm vc vm vp (counts_of nv nc))) n }
-{
-    let mut i = 0;
-    while i < n {
-        if holds(test, cv, co, cm, vc, vm, vp, nv, nc, i) {
-            i += 1;
-        } else {
-            return i;
+impl Fault {
+    pub fn refusal(self) -> Refusal
+        ensures which { result ≡ refusal_of self }
+        ensures number { number_of result ≡ (told (Err self)).answer }
+    {
+        match self {
+            Fault::Parts => Refusal::Parts,
+            Fault::Broken { .. } => Refusal::NotWellFormed,
         }
     }
-    i
 }
 
-fn first_of(
-    test: Test,
-    cv: &[u32],
-    co: &[u32],
-    cm: &[u32],
-    vc: &[u32],
-    vm: &[u32],
-    vp: &[f32],
-    nv: u32,
-    nc: u32,
-) -> u32
-    ensures { result ≡ first_of test (seen cv co cm vc vm vp (counts_of nv nc)) }
+// The first slot that fails a test.
+fn first_of(test: Test, t: &Seen) -> Option<u32>
+    ensures first { unwrap_or result (span test t.now.vertices t.now.corners) ≡ first_of test (seen t.now) }
+    ensures within { IfSome result (λ i. i < span test t.now.vertices t.now.corners) }
 {
-    first_bad(test, cv, co, cm, vc, vm, vp, nv, nc, span(test, nv, nc))
+    (0..test.span(t.vertices, t.corners)).find(|i| !holds(test, t, *i))
 }
 
-fn ruled(
-    cv: &[u32],
-    co: &[u32],
-    cm: &[u32],
-    vc: &[u32],
-    vm: &[u32],
-    vp: &[f32],
-    nv: u32,
-    nc: u32,
-) -> Verdict
-    ensures { result ≡ ruled_of (seen cv co cm vc vm vp (counts_of nv nc)) }
+// The first test that a slot fails.
+fn ruled(t: &Seen) -> Result<(), Fault>
+    ensures { told result ≡ ruled_of (seen t.now) }
 {
-    let mut k = passing(cv, co, cm, vm, nv, nc);
-    while k < 10 {
-        let test = test_at(k);
-        let i = first_of(test, cv, co, cm, vc, vm, vp, nv, nc);
-        if i < span(test, nv, nc) {
-            return Verdict {
-                answer: 7,
-                rule: rule_of(test),
-                slot: slot_of(test, i),
-            };
+    let settled = if passes(t) { SETTLED } else { 0 };
+    for test in &Test::ALL[settled..] {
+        if let Some(i) = first_of(*test, t) {
+            return Err(Fault::Broken {
+                rule: test.rule(),
+                slot: test.slot(i),
+            });
         }
-        k += 1;
     }
-    Verdict {
-        answer: 0,
-        rule: 0,
-        slot: 0,
-    }
+    Ok(())
 }
 
-pub fn check(
-    cv: &[u32],
-    co: &[u32],
-    cm: &[u32],
-    vc: &[u32],
-    vm: &[u32],
-    vp: &[f32],
-    counts: Counts,
-) -> Verdict
-    ensures { result ≡ verdict_of (seen cv co cm vc vm vp counts) }
+pub fn check(t: &Seen) -> Result<(), Fault>
+    ensures { told result ≡ verdict_of (seen t.now) }
 {
-    if table::is_shaped(cv.len(), co.len(), cm.len(), vc.len(), vm.len(), vp.len()) {
-        return ruled(cv, co, cm, vc, vm, vp, counts.vertices, counts.corners);
-    }
-    Verdict {
-        answer: 1,
-        rule: 0,
-        slot: 0,
+    if t.is_shaped() {
+        ruled(t)
+    } else {
+        Err(Fault::Parts)
     }
 }

@@ -2,25 +2,51 @@
 use Prim.Native.Nat.{ℕ, zero, suc, ◌≤◌, ◌<◌}
 use mathlib.Core.Path.{◌≡◌, refl, ap}
 use native.Mathlib.Omega.{arith}
-use native.Mathlib.Decide.{ℕ_discrete}
+use native.Mathlib.Decide.{ℕ_discrete, dec_lt}
+use lib.ListN.{get_or}
 use Rattle.checker_kinds.specs.Kinds.{tests, test_at, rule_of}
+use Rattle.checker_kinds.specs.Order.{InOrder}
 use Rattle.checker_kinds.specs.declared.Test.{Test}
+use Rattle.checker_kinds.specs.declared.TheConstants.Test.{ALL}
 use Rattle.checker_kinds.specs.declared.Test.TheVariants.{Counts, CornerMark, FaceMark, VertexMark, CornerVertex}
 use Rattle.checker_kinds.specs.declared.Test.TheVariants.{FaceVertex, Opposite, VertexCorner, CornerFan, Finite}
 
-pub test_rest : (k : ℕ) → (k ≡ 0 → ⊥) → (k ≡ 1 → ⊥) → (k ≡ 2 → ⊥) → (k ≡ 3 → ⊥) → (k ≡ 4 → ⊥) → (k ≡ 5 → ⊥) → (k ≡ 6 → ⊥) → (k ≡ 7 → ⊥)
-    → (k ≡ 8 → ⊥) → Finite ≡ test_at k
+-- the table of the tests holds them in their order
+pub in_order : (k : ℕ) (d : Test) → k < tests → get_or ALL k d ≡ test_at k
 unfolding test_at
-test_rest zero n0 n1 n2 n3 n4 n5 n6 n7 n8 = absurd (n0 refl)
-test_rest (suc zero) n0 n1 n2 n3 n4 n5 n6 n7 n8 = absurd (n1 refl)
-test_rest (suc (suc zero)) n0 n1 n2 n3 n4 n5 n6 n7 n8 = absurd (n2 refl)
-test_rest (suc (suc (suc zero))) n0 n1 n2 n3 n4 n5 n6 n7 n8 = absurd (n3 refl)
-test_rest (suc (suc (suc (suc zero)))) n0 n1 n2 n3 n4 n5 n6 n7 n8 = absurd (n4 refl)
-test_rest (suc (suc (suc (suc (suc zero))))) n0 n1 n2 n3 n4 n5 n6 n7 n8 = absurd (n5 refl)
-test_rest (suc (suc (suc (suc (suc (suc zero)))))) n0 n1 n2 n3 n4 n5 n6 n7 n8 = absurd (n6 refl)
-test_rest (suc (suc (suc (suc (suc (suc (suc zero))))))) n0 n1 n2 n3 n4 n5 n6 n7 n8 = absurd (n7 refl)
-test_rest (suc (suc (suc (suc (suc (suc (suc (suc zero)))))))) n0 n1 n2 n3 n4 n5 n6 n7 n8 = absurd (n8 refl)
-test_rest (suc (suc (suc (suc (suc (suc (suc (suc (suc k))))))))) n0 n1 n2 n3 n4 n5 n6 n7 n8 = refl
+in_order zero d h = refl
+in_order (suc zero) d h = refl
+in_order (suc (suc zero)) d h = refl
+in_order (suc (suc (suc zero))) d h = refl
+in_order (suc (suc (suc (suc zero)))) d h = refl
+in_order (suc (suc (suc (suc (suc zero))))) d h = refl
+in_order (suc (suc (suc (suc (suc (suc zero)))))) d h = refl
+in_order (suc (suc (suc (suc (suc (suc (suc zero))))))) d h = refl
+in_order (suc (suc (suc (suc (suc (suc (suc (suc zero)))))))) d h = refl
+in_order (suc (suc (suc (suc (suc (suc (suc (suc (suc zero))))))))) d h = refl
+in_order (suc (suc (suc (suc (suc (suc (suc (suc (suc (suc k)))))))))) d h = absurd (omega arith)
+
+-- as specs/Order.antt says it, of every number
+pub table_in_order : InOrder
+unfolding test_at
+table_in_order k = go k (dec_lt k tests)
+  where
+    past : (k : ℕ) → tests ≤ k → get_or ALL k Finite ≡ test_at k
+    past zero h = absurd (omega arith)
+    past (suc zero) h = absurd (omega arith)
+    past (suc (suc zero)) h = absurd (omega arith)
+    past (suc (suc (suc zero))) h = absurd (omega arith)
+    past (suc (suc (suc (suc zero)))) h = absurd (omega arith)
+    past (suc (suc (suc (suc (suc zero))))) h = absurd (omega arith)
+    past (suc (suc (suc (suc (suc (suc zero)))))) h = absurd (omega arith)
+    past (suc (suc (suc (suc (suc (suc (suc zero))))))) h = absurd (omega arith)
+    past (suc (suc (suc (suc (suc (suc (suc (suc zero)))))))) h = absurd (omega arith)
+    past (suc (suc (suc (suc (suc (suc (suc (suc (suc zero))))))))) h = refl
+    past (suc (suc (suc (suc (suc (suc (suc (suc (suc (suc k)))))))))) h = refl
+
+    go : (k : ℕ) → Dec (k < tests) → get_or ALL k Finite ≡ test_at k
+    go k (yes h) = in_order k Finite h
+    go k (no h) = past k (omega arith)
 
 -- when a test's turn comes
 unfoldable pub place : Test → ℕ

@@ -1,2 +1,3 @@
 -- The order of the tests.
 pub mod Kinds
+pub mod Order

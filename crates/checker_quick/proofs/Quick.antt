@@ -4,16 +4,17 @@ use mathlib.Core.Path.{◌≡◌, refl, sym, subst, ◌∙◌}
 use mathlib.Core.List.{List}
 use mathlib.Core.Bool.{Bool, true, false, ◌&&◌, not}
 use native.Mathlib.Omega.{arith}
-use native.Mathlib.Decide.{ℕ_discrete, dec_lt}
+use native.Mathlib.Decide.{ℕ_discrete}
 use borrow.Author.Tests.{eq-eqb, eqb-true, le-leb, leb-true}
 use lib.Dec.{leb, eqb}
-use lib.Ieee.{Float}
 use lib.ListN.{length}
-use Rattle.flag.proofs.Words.{and_intro, and_left, and_right, implies_intro, not_eqb, eqb_not}
+use Rattle.std.specs.List.{list_all, range_with_len}
+use Rattle.std.proofs.lemmas.Bool.{and_from, and_parts}
+use Rattle.table.proofs.Words.{implies_intro, eqb_not}
 use Rattle.corner.specs.Corner.{absent, next, previous}
-use Rattle.corner.proofs.Turns.{next_first, next_second, next_last, previous_first, previous_second, previous_last, next_below, previous_below}
+use Rattle.corner.proofs.Turns.{next_first, next_second, next_last, previous_first, previous_second, previous_last}
 use Rattle.table.specs.Slots.{vertex_at, opposite_at, mark_at}
-use Rattle.table.specs.Table.{table, live}
+use Rattle.table.specs.Table.{Table, corner_room, vertex_room, vertex, live}
 use Rattle.table.proofs.Lives.{live_true, live_from, not_live}
 use Rattle.checker_kinds.specs.Kinds.{test_at, span}
 use Rattle.checker_rules.specs.Tests.{counts_test, mark_test, face_test, vertex_test, differ_test, back_test, mates_test, opposite_test, holds, AllHold}
@@ -26,12 +27,8 @@ module _ (co cm : List ℕ) (nc c o : ℕ) where
       → r ≡ (live cm nc o && eqb (opposite_at co o) c)
   paired_by m own r l e f h = rw (← (live_from cm nc o (eqb (mark_at cm o) 0) refl l), ← e, ← f) h
 
-  -- its own face is there too
-  pub sides_there : (cv : List ℕ) (p : Bool) → There cv co cm nc → p ≡ (live cm nc o && eqb (opposite_at co o) c) → p ≡ true
-      → (next o < length cv) × (previous o < length cv)
-  sides_there cv p t e h =
-      let l : o < nc = (live_true cm nc o (and_left (live cm nc o) (eqb (opposite_at co o) c) (sym e ∙ h))).0 in
-      (omega (arith, next_below o nc t.thirds l, t.vertices), omega (arith, previous_below o nc t.thirds l, t.vertices))
+  pub paired_below : (p : Bool) → p ≡ (live cm nc o && eqb (opposite_at co o) c) → p ≡ true → o < nc
+  paired_below p e h = (live_true cm nc o (and_parts (live cm nc o) (eqb (opposite_at co o) c) (sym e ∙ h)).0).0
 
 pub paired_not : (cm : List ℕ) (nc o : ℕ) (own : Bool) → nc ≤ o → false ≡ (live cm nc o && own)
 paired_not cm nc o own l = rw (← (not_live cm nc o l))
@@ -56,16 +53,16 @@ module _ (cv co cm : List ℕ) (nc c o : ℕ) (is : o ≡ opposite_at co c) wher
       implies_intro (live cm nc c) _
       (λ w.
       implies_intro (not (eqb (opposite_at co c) absent)) _
-      (λ n. rw (← is, ← a, ← b) (and_intro (and_left l m x) (and_intro (and_right l m x) (and_intro (and_left d f y) (and_right d f y))))))
+      (λ n. rw (← is, ← a, ← b) (and_from _ _ (and_parts l m x).0 (and_from _ _ (and_parts l m x).1 (and_from _ _ (and_parts d f y).0 (and_parts d f y).1)))))
 
 module _ (cv cm : List ℕ) (nc c own : ℕ) (is : own ≡ vertex_at cv c) where
   pub vertex_fits : (vm : List ℕ) (nv : ℕ) (b : Bool) → b ≡ live vm nv own → b ≡ true → vertex_test cv cm vm nv nc c ≡ true
   unfolding vertex_test
   vertex_fits vm nv b e h = implies_intro (live cm nc c) _ (λ w. rw (← is) (sym e ∙ h))
 
-  pub differ_fits : (ahead : ℕ) → ahead ≡ vertex_at cv (next c) → (own ≡ ahead → ⊥) → differ_test cv cm nc c ≡ true
+  pub differ_fits : (ahead : ℕ) (b : Bool) → b ≡ true → b ≡ not (eqb own ahead) → ahead ≡ vertex_at cv (next c) → differ_test cv cm nc c ≡ true
   unfolding differ_test
-  differ_fits ahead e n = implies_intro (live cm nc c) _ (λ w. not_eqb _ _ (λ z. n (is ∙ z ∙ sym e)))
+  differ_fits ahead b h n e = implies_intro (live cm nc c) _ (λ w. rw (← is, ← e) (sym n ∙ h))
 
 -- ---- one face, from its first corner
 
@@ -91,90 +88,91 @@ module _ (f : ℕ) (m : f % 3 ≡ 0) where
   previous2 = omega (arith, previous_last (f + 2) (omega arith))
 
 -- what is known of a corner once its own vertex and those ahead and behind are
-abbrev Given : (cv co cm vm : List ℕ) (nv nc i own ahead behind : ℕ) → Type 0
-Given cv co cm vm nv nc i own ahead behind =
-    own ≡ vertex_at cv i → ahead ≡ vertex_at cv (next i) → behind ≡ vertex_at cv (previous i) → CornerFits cv co cm vm nv nc i
+abbrev Given : (t : Table) (i own ahead behind : ℕ) → Type 0
+Given t i own ahead behind = own ≡ vertex t i → ahead ≡ vertex t (next i) → behind ≡ vertex t (previous i) → CornerFits t i
 
-pub sides : (cv co cm vm : List ℕ) (nv nc f a b c : ℕ) → f % 3 ≡ 0 → a ≡ vertex_at cv f → b ≡ vertex_at cv (f + 1) → c ≡ vertex_at cv (f + 2)
-    → Given cv co cm vm nv nc f a b c → Given cv co cm vm nv nc (f + 1) b c a → Given cv co cm vm nv nc (f + 2) c a b
-    → (i : ℕ) → f ≤ i → i < f + 3 → CornerFits cv co cm vm nv nc i
-sides cv co cm vm nv nc f a b c m ia ib ic p q r i l h =
-    on_face (CornerFits cv co cm vm nv nc) f i l h (p ia (rw (next_first f m) ib) (rw (previous_first f m) ic))
+pub sides : (t : Table) (f a b c : ℕ) → f % 3 ≡ 0 → a ≡ vertex t f → b ≡ vertex t (f + 1) → c ≡ vertex t (f + 2)
+    → Given t f a b c → Given t (f + 1) b c a → Given t (f + 2) c a b
+    → (i : ℕ) → f ≤ i → i < f + 3 → CornerFits t i
+sides t f a b c m ia ib ic p q r i l h =
+    on_face (CornerFits t) f i l h (p ia (rw (next_first f m) ib) (rw (previous_first f m) ic))
     (q ib (rw (next1 f m) ic) (rw (previous1 f m) ia))
     (r ic (rw (next2 f m) ia) (rw (previous2 f m) ib))
 
-module _ (cm : List ℕ) (f : ℕ) (m : f % 3 ≡ 0) (mark : ℕ) (is : mark ≡ mark_at cm f) (g : Bool)
-    (ig : g ≡ (eqb (mark_at cm (f + 1)) mark && eqb (mark_at cm (f + 2)) mark)) (tg : g ≡ true) (i : ℕ) (l : f ≤ i) (h : i < f + 3) where
-  mark1 : mark_at cm (f + 1) ≡ mark
-  mark1 = eqb-true _ _ (and_left (eqb (mark_at cm (f + 1)) mark) (eqb (mark_at cm (f + 2)) mark) (sym ig ∙ tg))
+module _ (t : Table) (f : ℕ) (m : f % 3 ≡ 0) (mark : ℕ) (is : mark ≡ mark_at t.corner_mark f) (g : Bool)
+    (ig : g ≡ (eqb (mark_at t.corner_mark (f + 1)) mark && eqb (mark_at t.corner_mark (f + 2)) mark)) (tg : g ≡ true) (i : ℕ) (l : f ≤ i) (h : i < f + 3) where
+  mark1 : mark_at t.corner_mark (f + 1) ≡ mark
+  mark1 = eqb-true _ _ (and_parts (eqb (mark_at t.corner_mark (f + 1)) mark) (eqb (mark_at t.corner_mark (f + 2)) mark) (sym ig ∙ tg)).0
 
-  mark2 : mark_at cm (f + 2) ≡ mark
-  mark2 = eqb-true _ _ (and_right (eqb (mark_at cm (f + 1)) mark) (eqb (mark_at cm (f + 2)) mark) (sym ig ∙ tg))
+  mark2 : mark_at t.corner_mark (f + 2) ≡ mark
+  mark2 = eqb-true _ _ (and_parts (eqb (mark_at t.corner_mark (f + 1)) mark) (eqb (mark_at t.corner_mark (f + 2)) mark) (sym ig ∙ tg)).1
 
-  own_mark : mark_at cm i ≡ mark
-  own_mark = on_face (λ (x : ℕ). mark_at cm x ≡ mark) f i l h (sym is) mark1 mark2
+  own_mark : mark_at t.corner_mark i ≡ mark
+  own_mark = on_face (λ (x : ℕ). mark_at t.corner_mark x ≡ mark) f i l h (sym is) mark1 mark2
 
-  next_mark : mark_at cm (next i) ≡ mark
+  next_mark : mark_at t.corner_mark (next i) ≡ mark
   next_mark =
-      on_face (λ (x : ℕ). mark_at cm (next x) ≡ mark) f i l h (rw (next_first f m) mark1) (rw (next1 f m) mark2) (rw (next2 f m) (sym is))
+      on_face (λ (x : ℕ). mark_at t.corner_mark (next x) ≡ mark) f i l h (rw (next_first f m) mark1) (rw (next1 f m) mark2) (rw (next2 f m) (sym is))
 
-  mark_passes : mark ≤ 1 → mark_test cm i ≡ true
+  mark_passes : mark ≤ 1 → mark_test t.corner_mark i ≡ true
   unfolding mark_test
-  mark_passes s = le-leb (mark_at cm i) 1 (rw own_mark s)
+  mark_passes s = le-leb (mark_at t.corner_mark i) 1 (rw own_mark s)
 
-  face_passes : face_test cm i ≡ true
+  face_passes : face_test t.corner_mark i ≡ true
   unfolding face_test
   face_passes = eq-eqb _ _ (next_mark ∙ sym own_mark)
 
-  module _ (cv co vm : List ℕ) (nv nc : ℕ) where
-    pub face_live_lem : mark ≡ 0 → CornerFits cv co cm vm nv nc i → Fits cv co cm vm nv nc i
-    face_live_lem e t = record { mark = mark_passes (omega arith); face = face_passes; corner = t }
+  pub face_live_lem : mark ≡ 0 → CornerFits t i → Fits t i
+  face_live_lem e k = record { mark = mark_passes (omega arith); face = face_passes; corner = k }
 
-    gone : mark ≡ 1 → live cm nc i ≡ true → ⊥
-    gone e w = let z : ◌≡◌ {A = ℕ} 0 1 = sym (live_true cm nc i w).1 ∙ own_mark ∙ e in omega arith
+  gone : mark ≡ 1 → live t.corner_mark t.corners i ≡ true → ⊥
+  gone e w = let z : ◌≡◌ {A = ℕ} 0 1 = sym (live_true t.corner_mark t.corners i w).1 ∙ own_mark ∙ e in omega arith
 
-    pub face_gone : eqb mark 1 ≡ true → Fits cv co cm vm nv nc i
-    unfolding vertex_test differ_test opposite_test
-    face_gone t =
-        let e : mark ≡ 1 = eqb-true _ _ t in
-        record {
-          mark = mark_passes (omega arith);
-          face = face_passes;
-          corner = record {
-            vertex = implies_intro (live cm nc i) _ (λ w. absurd (gone e w));
-            differ = implies_intro (live cm nc i) _ (λ w. absurd (gone e w));
-            opposite = implies_intro (live cm nc i) _ (λ w. absurd (gone e w));
-          };
-        }
+  pub face_gone : mark ≡ 1 → Fits t i
+  unfolding vertex_test differ_test opposite_test
+  face_gone e = record {
+    mark = mark_passes (omega arith);
+    face = face_passes;
+    corner = record {
+      vertex = implies_intro (live t.corner_mark t.corners i) _ (λ w. absurd (gone e w));
+      differ = implies_intro (live t.corner_mark t.corners i) _ (λ w. absurd (gone e w));
+      opposite = implies_intro (live t.corner_mark t.corners i) _ (λ w. absurd (gone e w));
+    };
+  }
 
--- ---- all faces, and the tests that are settled by that
+-- ---- all slots, and the tests that are settled by that
 
-pub faces_more : (P : ℕ → Type 0) (f : ℕ) → ((i : ℕ) → i < f → P i) → ((i : ℕ) → f ≤ i → i < f + 3 → P i) → (i : ℕ) → i < f + 3 → P i
-faces_more P f p q i h = go (dec_lt i f)
-  where
-    go : Dec (i < f) → P i
-    go (yes l) = p i l
-    go (no n) = q i (omega arith) h
+-- what all of a range pass
+module _ (test : ℕ → Bool) where
+  pub all_from : (a n : ℕ) → list_all test (range_with_len a n) ≡ true → (i : ℕ) → a ≤ i → i < a + n → test i ≡ true
+  all_from a zero e i l h = absurd (omega arith)
+  all_from a (suc n) e i l h = go (ℕ_discrete i a) (λ m. all_from (a + 1) n (and_parts (test a) _ e).1 i m (omega arith))
+    where
+      go : Dec (i ≡ a) → (a + 1 ≤ i → test i ≡ true) → test i ≡ true
+      go (yes k) ih = rw k (and_parts (test a) _ e).0
+      go (no k) ih = ih (omega arith)
 
-pub all_there : (cv co cm : List ℕ) (vroom nv nc : ℕ) (p : Bool) → p ≡ (leb nc (length cv) && leb nc (length co)) → p ≡ true
-    → counts_test (length cm) vroom nv nc ≡ true → There cv co cm nc
+  pub all_below : (n : ℕ) → list_all test (range_with_len 0 n) ≡ true → (i : ℕ) → i < n → test i ≡ true
+  all_below n e i h = all_from 0 n e i (omega arith) (omega arith)
+
+pub all_there : (t : Table) → t.corners ≤ length t.corner_vertex → t.corners ≤ length t.corner_opposite
+    → t.corners ≤ absent → counts_test (corner_room t) (vertex_room t) t.vertices t.corners ≡ true → There t
 unfolding counts_test
-all_there cv co cm vroom nv nc p is h e =
-    let v = leb nc (length cv) in
-    let o = leb nc (length co) in
-    let a = leb nc (length cm) in
-    let b = leb nv vroom in
-    let d = eqb (nc % 3) 0 in
+all_there t v o n e =
+    let a = leb t.corners (corner_room t) in
+    let b = leb t.vertices (vertex_room t) in
+    let d = eqb (t.corners % 3) 0 in
     record {
-      vertices = leb-true _ _ (and_left v o (sym is ∙ h));
-      opposites = leb-true _ _ (and_right v o (sym is ∙ h));
-      marks = leb-true _ _ (and_left a (b && d) e);
-      thirds = eqb-true _ _ (and_right b d (and_right a (b && d) e));
+      vertices = v;
+      opposites = o;
+      marks = leb-true _ _ (and_parts a (b && d) e).0;
+      thirds = eqb-true _ _ (and_parts b d (and_parts a (b && d) e).1).1;
+      counted = n;
     }
 
-module _ (cv co cm vc vm : List ℕ) (vp : List Float) (nv nc : ℕ) (counts : counts_test (length cm) (length vm) nv nc ≡ true)
-    (marks : (i : ℕ) → i < nv → mark_test vm i ≡ true) (faces : (i : ℕ) → i < nc → Fits cv co cm vm nv nc i) where
-  pub settles : (k : ℕ) → k < 7 → AllHold (test_at k) (table cv co cm vc vm vp nv nc)
+module _ (t : Table) (counts : counts_test (corner_room t) (vertex_room t) t.vertices t.corners ≡ true)
+    (marks : (i : ℕ) → i < t.vertices → mark_test t.vertex_mark i ≡ true) (faces : (i : ℕ) → i < t.corners → Fits t i) where
+  pub settles : (k : ℕ) → k < 7 → AllHold (test_at k) t
   unfolding test_at span holds
   settles zero l i h = counts
   settles (suc zero) l i h = (faces i h).mark

@@ -1,5 +1,4 @@
--- Laws of the tests: by the arms of their code, and read as the rules; R5's walks.
+-- Laws of the tests: read as the rules; R5's walks, and their turns.
 pub mod Turns
 pub mod Walks
-pub mod Arms
 pub mod Rules

@@ -5,7 +5,8 @@ use mathlib.Core.Logic.{◌≢◌}
 use mathlib.Core.Bool.{true, ◌&&◌, not}
 use borrow.Author.Tests.{leb-true, le-leb, eqb-true, eq-eqb}
 use lib.Dec.{leb, eqb}
-use Rattle.flag.proofs.Words.{and_intro, and_left, and_right, implies_intro, implies_elim, not_eqb, eqb_not}
+use Rattle.std.proofs.lemmas.Bool.{and_from, and_parts}
+use Rattle.table.proofs.Words.{implies_intro, implies_elim, not_eqb, eqb_not}
 use Rattle.corner.specs.Corner.{absent, next, previous}
 use Rattle.vertex.specs.Point.{finite_point}
 use Rattle.table.specs.Slots.{mark_at}
@@ -41,19 +42,19 @@ module _ (t : Table) where
       let b = eqb (opposite t o) c in
       let d = eqb (vertex t (next o)) (vertex t (previous c)) in
       let f = eqb (vertex t (previous o)) (vertex t (next c)) in
-      let r : b && (d && f) ≡ true = and_right a (b && (d && f)) e in
+      let r : b && (d && f) ≡ true = (and_parts a (b && (d && f)) e).1 in
       record {
-        over = live_true t.corner_mark t.corners o (and_left a (b && (d && f)) e);
-        pair = eqb-true _ _ (and_left b (d && f) r);
-        tail = eqb-true _ _ (and_left d f (and_right b (d && f) r));
-        head = eqb-true _ _ (and_right d f (and_right b (d && f) r));
+        over = live_true t.corner_mark t.corners o (and_parts a (b && (d && f)) e).0;
+        pair = eqb-true _ _ (and_parts b (d && f) r).0;
+        tail = eqb-true _ _ (and_parts d f (and_parts b (d && f) r).1).0;
+        head = eqb-true _ _ (and_parts d f (and_parts b (d && f) r).1).1;
       }
 
   mates_back : (c o : ℕ) → Mate (Live t) (opposite t) (vertex t) c o
       → mates_test t.corner_vertex t.corner_opposite t.corner_mark t.corners c o ≡ true
   unfolding mates_test back_test
   mates_back c o m =
-      and_intro (true_live _ _ _ m.over) (and_intro (eq-eqb _ _ m.pair) (and_intro (eq-eqb _ _ m.tail) (eq-eqb _ _ m.head)))
+      and_from _ _ (true_live _ _ _ m.over) (and_from _ _ (eq-eqb _ _ m.pair) (and_from _ _ (eq-eqb _ _ m.tail) (eq-eqb _ _ m.head)))
 
   pub holds_at : (test : Test) (i : ℕ) → holds test t i ≡ true → At test i
   unfolding At holds counts_test mark_test face_test vertex_test differ_test opposite_test corner_test fan_test point_test
@@ -61,8 +62,8 @@ module _ (t : Table) where
       let a = leb t.corners (corner_room t) in
       let b = leb t.vertices (vertex_room t) in
       let d = eqb (t.corners % 3) 0 in
-      let f : b && d ≡ true = and_right a (b && d) e in
-      (leb-true _ _ (and_left a (b && d) e), leb-true _ _ (and_left b d f), eqb-true _ _ (and_right b d f))
+      let f : b && d ≡ true = (and_parts a (b && d) e).1 in
+      (leb-true _ _ (and_parts a (b && d) e).0, leb-true _ _ (and_parts b d f).0, eqb-true _ _ (and_parts b d f).1)
   holds_at CornerMark c e = leb-true _ _ e
   holds_at FaceMark c e = eqb-true _ _ e
   holds_at VertexMark v e = leb-true _ _ e
@@ -77,13 +78,13 @@ module _ (t : Table) where
       let a = live t.corner_mark t.corners (corner t v) in
       let b = eqb (vertex t (corner t v)) v in
       let f : a && b ≡ true = implies_elim (live t.vertex_mark t.vertices v) _ e (true_live _ _ _ l) in
-      (live_true _ _ _ (and_left a b f), eqb-true _ _ (and_right a b f))
+      (live_true _ _ _ (and_parts a b f).0, eqb-true _ _ (and_parts a b f).1)
   holds_at CornerFan c e = λ l. implies_elim (live t.corner_mark t.corners c) _ e (true_live _ _ _ l)
   holds_at Finite v e = λ l. implies_elim (live t.vertex_mark t.vertices v) _ e (true_live _ _ _ l)
 
   pub at_holds : (test : Test) (i : ℕ) → At test i → holds test t i ≡ true
   unfolding At holds counts_test mark_test face_test vertex_test differ_test opposite_test corner_test fan_test point_test
-  at_holds Counts i h = and_intro (le-leb _ _ h.0) (and_intro (le-leb _ _ h.1) (eq-eqb _ _ h.2))
+  at_holds Counts i h = and_from _ _ (le-leb _ _ h.0) (and_from _ _ (le-leb _ _ h.1) (eq-eqb _ _ h.2))
   at_holds CornerMark c h = le-leb _ _ h
   at_holds FaceMark c h = eq-eqb _ _ h
   at_holds VertexMark v h = le-leb _ _ h
@@ -95,6 +96,6 @@ module _ (t : Table) where
       (λ e. implies_intro (not (eqb (opposite t c) absent)) _ (λ n. mates_back c (opposite t c) (h (live_true _ _ _ e) (eqb_not _ _ n))))
   at_holds VertexCorner v h =
       implies_intro (live t.vertex_mark t.vertices v) _
-      (λ e. and_intro (true_live t.corner_mark t.corners (corner t v) (h (live_true _ _ _ e)).0) (eq-eqb _ _ (h (live_true _ _ _ e)).1))
+      (λ e. and_from _ _ (true_live t.corner_mark t.corners (corner t v) (h (live_true _ _ _ e)).0) (eq-eqb _ _ (h (live_true _ _ _ e)).1))
   at_holds CornerFan c h = implies_intro (live t.corner_mark t.corners c) _ (λ e. h (live_true _ _ _ e))
   at_holds Finite v h = implies_intro (live t.vertex_mark t.vertices v) _ (λ e. h (live_true _ _ _ e))

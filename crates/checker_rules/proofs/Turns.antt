@@ -54,9 +54,11 @@ module _ (co : List ℕ) (s c : ℕ) where
       pub turn_right : q ≡ true → true ≡ near co s c room (beside true co a) (beside false co b)
       turn_right e = near_right room (beside true co a) (beside false co b) h p left_is no q right_is e
 
-      pub turn_more : q ≡ false → near co s c room (beside true co a) (beside false co b) ≡ near co s c (room - 1) (beside true co x) (beside false co y)
-      turn_more g =
+      pub turn_more : (rest : ℕ) → room - 1 ≡ rest → q ≡ false
+          → near co s c room (beside true co a) (beside false co b) ≡ near co s c rest (beside true co x) (beside false co y)
+      turn_more rest e g =
           near_more room (beside true co a) (beside false co b) h p left_is no q right_is (beside true co x) (beside false co y)
           (ap (λ (z : ℕ). beside true co z) ex)
           (ap (λ (z : ℕ). beside false co z) ey)
           g
+          ∙ ap (λ (k : ℕ). near co s c k (beside true co x) (beside false co y)) e

@@ -8,7 +8,7 @@ use native.Mathlib.Omega.{arith}
 use borrow.Author.Tests.{ltb-true, eqb-true, eqb-false, eq-eqb, ne_eqb}
 use lib.ListN.{length, get_or-eq_default}
 use lib.Dec.{ltb, eqb}
-use Rattle.flag.proofs.Words.{or_left, or_cases}
+use Rattle.std.proofs.lemmas.Bool.{or_cases, or_left}
 use Rattle.corner.specs.Corner.{absent, turn}
 use Rattle.corner.proofs.Turns.{next_first, previous_first}
 use Rattle.table.specs.Slots.{opposite_at}

@@ -1,6 +1,6 @@
 -- Document 01, "Well-formed": R1 to R6 as tests of one slot.
 use Rattle.std.specs.Prelude.{ℕ, ◌%◌, ◌<◌, ◌≡◌, List, Bool, true, ◌&&◌, not, leb, eqb, Float}
-use Rattle.flag.specs.Words.{implies}
+use Rattle.table.specs.Words.{implies}
 use Rattle.corner.specs.Corner.{absent, next, previous}
 use Rattle.vertex.specs.Point.{finite_point}
 use Rattle.table.specs.Slots.{vertex_at, opposite_at, corner_at, mark_at, point_at}

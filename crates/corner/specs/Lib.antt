@@ -1,2 +1,3 @@
 -- Numbers of corners and faces, and the turns within a face.
 pub mod Corner
+pub mod Told

@@ -1,4 +1,4 @@
--- Laws and a worked example of a collapse.
-pub mod Writes
-pub mod Made
+-- Option's `or`, marks one after another, and a worked example of a collapse.
+pub mod Either
+pub mod Marks
 pub mod Examples

@@ -1,4 +1,2 @@
--- Laws and a worked example of a flip.
-pub mod Writes
-pub mod Made
+-- A worked example of a flip.
 pub mod Examples

@@ -9,7 +9,7 @@ use native.Mathlib.Decide.{ℕ_discrete}
 use borrow.Author.Tests.{eq-eqb, ne_eqb, eqb-true, eqb-false, not-true}
 use lib.Dec.{eqb}
 use Rattle.corner.specs.Corner.{absent}
-use Rattle.flag.proofs.Words.{and_true}
+use Rattle.std.proofs.lemmas.Bool.{and_parts}
 use Rattle.table.specs.Table.{Table, opposite, Live, LiveVertex, live}
 use Rattle.table.specs.Euler.{count, vertex_count, face_count, bare_count, paired_count, edge_count, SameEuler}
 use Rattle.table.proofs.Lives.{live_true, true_live}
@@ -99,7 +99,7 @@ module _ (t : Table) where
   bare_is = count_sum t.corners (λ c. live t.corner_mark t.corners c && eqb (opposite t c) absent) (bare? t) from to
     where
       from : (c : ℕ) → live t.corner_mark t.corners c && eqb (opposite t c) absent ≡ true → Bare t c
-      from c e = let p = and_true _ _ e in (live_c c p.0, eqb-true _ _ p.1)
+      from c e = let p = and_parts _ _ e in (live_c c p.0, eqb-true _ _ p.1)
 
       to : (c : ℕ) → Bare t c → live t.corner_mark t.corners c && eqb (opposite t c) absent ≡ true
       to c h = rw (c_live c h.0, eq-eqb _ _ h.1)
@@ -109,7 +109,7 @@ module _ (t : Table) where
   paired_is = count_sum t.corners (λ c. live t.corner_mark t.corners c && not (eqb (opposite t c) absent)) (paired? t) from to
     where
       from : (c : ℕ) → live t.corner_mark t.corners c && not (eqb (opposite t c) absent) ≡ true → Paired t c
-      from c e = let p = and_true _ _ e in (live_c c p.0, eqb-false _ _ (not-true _ p.1))
+      from c e = let p = and_parts _ _ e in (live_c c p.0, eqb-false _ _ (not-true _ p.1))
 
       to : (c : ℕ) → Paired t c → live t.corner_mark t.corners c && not (eqb (opposite t c) absent) ≡ true
       to c h = rw (c_live c h.0, ne_eqb _ _ h.1)

@@ -1,2 +1,2 @@
--- Laws of the plans and of two new faces.
-pub mod Made
+-- Laws of values stored one after another.
+pub mod Stored

@@ -1,9 +1,10 @@
 -- What an edit reads before it writes: the corners c0.., vertices v0.. and outer opposites o0.. of a face, or of the two faces at an edge.
-use Rattle.std.specs.Prelude.{ℕ, ◌+◌, ◌<◌, List, length}
-use Rattle.corner.specs.Corner.{next}
+use Rattle.std.specs.Prelude.{ℕ, ◌+◌, ◌<◌, List, [], ◌∷◌, length, set}
+use Rattle.corner.specs.Corner.{absent, next}
 use Rattle.corner.specs.declared.Corner.{Corner}
 use Rattle.vertex.specs.declared.Vertex.{Vertex}
 use Rattle.table.specs.Slots.{vertex_at, opposite_at, three}
+use Rattle.table.specs.Table.{Table, opposite}
 use Rattle.edit_plans.specs.declared.Around.{Around}
 use Rattle.edit_plans.specs.declared.Triangle.{Triangle}
 
@@ -89,6 +90,17 @@ pub record VerticesThere (n : ℕ) (p : Around) : Type 0 where
 pub record EdgeThere (cv co : List ℕ) (c : ℕ) : Type 0 where
   pub vertices : CornersThere (length cv) (around cv co c)
   pub opposites : CornersThere (length co) (around cv co c)
+
+-- the edge of c has a face on each side, and both are slots
+pub record InnerEdge (t : Table) (c : ℕ) : Type 0 where
+  pub edge_lt_absent : c < absent
+  pub beyond_lt_absent : opposite t c < absent
+  pub faces : EdgeThere t.corner_vertex t.corner_opposite c
+
+-- the counts leave numbers for two new faces and a new vertex
+pub record HasRoom (t : Table) : Type 0 where
+  pub corners : t.corners + 6 < absent
+  pub vertices : t.vertices + 1 < absent
 
 -- two new faces on the end: their six slots of one part
 abbrev pub six : List ℕ → (n a b c d e f : ℕ) → List ℕ

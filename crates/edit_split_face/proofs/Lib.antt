@@ -1,4 +1,2 @@
--- Laws and worked examples of a face split.
-pub mod Writes
-pub mod Made
+-- A worked example of a face split.
 pub mod Examples

@@ -1,6 +1,8 @@
 -- docs/FORMATS.md: what is wrong with a patch file.
-use Rattle.std.specs.Prelude.{ℕ, ◌+◌, ◌*◌, not, List, eqb, ltb, get_or, take, drop}
+use Rattle.std.specs.Prelude.{ℕ, ◌+◌, ◌*◌, not, List, eqb, ltb, get_or, take, drop, Result, Ok, Err}
 use Rattle.script_command.specs.Checks.{first, when}
+use Rattle.patch_file.specs.declared.FileFault.{FileFault}
+use Rattle.patch_file.specs.declared.FileFault.TheVariants.{Empty, NotAPatch, AboveALimit, CutShort, TooLong}
 
 -- "STR1"
 abbrev pub magic : ℕ
@@ -26,6 +28,18 @@ fault_of words bytes =
     (first (when (ltb bytes 16) 4)
     (first (limited (get_or words 1 0) (get_or words 2 0) (get_or words 3 0))
     (ended bytes (size (get_or words 1 0) (get_or words 2 0) (get_or words 3 0))))))
+
+-- the numbers of the faults
+abbrev pub number_of : FileFault → ℕ
+number_of Empty = 1
+number_of NotAPatch = 2
+number_of AboveALimit = 3
+number_of CutShort = 4
+number_of TooLong = 5
+
+abbrev pub answer_of : {A : Type 0} → Result A FileFault → ℕ
+answer_of (Ok _) = 0
+answer_of (Err e) = number_of e
 
 -- "then three words for each point, three for each face, five for each command"
 abbrev pub point_words : List ℕ → List ℕ

@@ -12,21 +12,17 @@ use corner::Corner;
 fn label_side(left: bool, co: &[u32], c0: Corner, room: u32, l: &mut [u32], v: u32) -> bool
     ensures { Labelled (sweep left co.now c0.0 room c0.0) v l.old l.new result }
 {
-    let first = c0.0 as usize;
     let mut via = c0.turn_index(left);
-    let mut rest = room;
-    while rest > 0 {
-        let o = table::at(co, via, 4294967295);
-        if o == 4294967295 {
+    for _step in 0..room {
+        let Some(o) = Corner(table::at(co, via, u32::MAX)).present() else {
             return true;
-        }
-        let d = Corner(o).turn_index(left);
-        if d == first {
+        };
+        let d = o.turn_index(left);
+        if d == c0.index() {
             return false;
         }
         table::put(l, d, v);
-        via = Corner(o).turn_index(!left);
-        rest -= 1;
+        via = o.turn_index(!left);
     }
     false
 }
@@ -35,7 +31,7 @@ fn label_side(left: bool, co: &[u32], c0: Corner, room: u32, l: &mut [u32], v: u
 pub fn label(co: &[u32], n: u32, c: Corner, l: &mut [u32], v: u32)
     ensures { l.new ≡ relabel (ring_of co.now n c.0) v l.old }
 {
-    table::put(l, c.0 as usize, v);
+    table::put(l, c.index(), v);
     if label_side(true, co, c, n, l, v) {
         label_side(false, co, c, n, l, v);
     }

@@ -1,11 +1,11 @@
 -- The loop over the commands: what is left of the script takes the table as it is now to where the whole script takes the first one.
 -- Assumes nothing.
-use Prim.Native.Nat.{ℕ, suc, ◌+◌, ◌-◌, ◌*◌, ◌≤◌, ◌<◌}
+use Prim.Native.Nat.{ℕ, suc, ◌+◌, ◌-◌, ◌≤◌, ◌<◌}
 use mathlib.Core.Path.{◌≡◌, refl, sym, ap, subst, ◌∙◌}
 use mathlib.Core.List.{List}
 use native.Mathlib.Omega.{arith}
 use lib.ListN.{length, set, length-set}
-use Rattle.table.specs.Table.{Table, Shaped}
+use Rattle.table.specs.Table.{Table}
 use Rattle.edit_keeps.specs.Keeps.{Kept}
 use Rattle.script_command.specs.declared.Edit.{Edit}
 use Rattle.script_command.specs.Decode.{command_at}
@@ -30,33 +30,12 @@ kept_same t G = record { shaped = G.shaped; well_formed = G.well_formed; euler =
 pub kept_good : {t u : Table} → Kept t u → Good u
 kept_good k = record { shaped = k.shaped; well_formed = k.well_formed }
 
--- each lent part keeps its length
-pub record Sizes (t u : Table) : Type 0 where
-  pub cv : length u.corner_vertex ≡ length t.corner_vertex
-  pub co : length u.corner_opposite ≡ length t.corner_opposite
-  pub cm : length u.corner_mark ≡ length t.corner_mark
-  pub vc : length u.vertex_corner ≡ length t.vertex_corner
-  pub vm : length u.vertex_mark ≡ length t.vertex_mark
-  pub vp : length u.vertex_point ≡ length t.vertex_point
-
-pub sizes : {t u : Table} → Shaped t → Kept t u → Sizes t u
-sizes Z k =
-    record {
-      cv = k.shaped.corner_vertex_room ∙ k.corner_rooms ∙ sym Z.corner_vertex_room;
-      co = k.shaped.corner_opposite_room ∙ k.corner_rooms ∙ sym Z.corner_opposite_room;
-      cm = k.corner_rooms;
-      vc = k.shaped.vertex_corner_room ∙ k.vertex_rooms ∙ sym Z.vertex_corner_room;
-      vm = k.vertex_rooms;
-      vp = k.shaped.vertex_point_room ∙ ap (λ (n : ℕ). 3 * n) k.vertex_rooms ∙ sym Z.vertex_point_room;
-    }
-
 -- i of n commands are done
 pub record Running (s : List ℕ) (n i : ℕ) (answers₀ answers : List ℕ) (t₀ t : Table) : Type 0 where
   pub low : i ≤ n
   pub words : length answers ≡ length answers₀
   pub outcome : commands s (n - i) i answers t ≡ commands s n 0 answers₀ t₀
   pub kept : Kept t₀ t
-  pub same : Sizes t₀ t
 
 module _ (s : List ℕ) (n : ℕ) (answers₀ : List ℕ) (t₀ : Table) (G : Good t₀) where
   pub running_start : Running s n 0 answers₀ answers₀ t₀ t₀
@@ -67,7 +46,6 @@ module _ (s : List ℕ) (n : ℕ) (answers₀ : List ℕ) (t₀ : Table) (G : Go
         words = refl;
         outcome = ap (λ (m : ℕ). commands s m 0 answers₀ t₀) z;
         kept = kept_same t₀ G;
-        same = sizes G.shaped (kept_same t₀ G);
       }
 
   -- one command more
@@ -87,7 +65,6 @@ module _ (s : List ℕ) (n : ℕ) (answers₀ : List ℕ) (t₀ : Table) (G : Go
         words = ap length w ∙ length-set answers i a ∙ r.words;
         outcome = sym (ap (λ (m : ℕ). commands s m i answers t) z ∙ turned (n - (i + 1)) i answers answers' t u e a q d w) ∙ r.outcome;
         kept = g;
-        same = sizes G.shaped g;
       }
 
   pub running_end : (i : ℕ) (answers : List ℕ) (t : Table) → Running s n i answers₀ answers t₀ t → n ≤ i → Completed s n answers₀ answers t₀ t

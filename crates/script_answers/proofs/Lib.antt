@@ -1,3 +1,3 @@
 -- Laws of a command's answers.
+pub mod Told
 pub mod Passed
-pub mod Cases

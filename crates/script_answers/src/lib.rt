@@ -1,98 +1,121 @@
-// What a command answers: each check in its place. `effects` does the command where its answer is 0.
+// What stands in a command's way: its checks in their order. Where none refuses, `script_step` does the command.
 #![tactic(auto)]
 
-ghost use Rattle.std.specs.Prelude.{◌≡◌, List, ℕ, ◌<◌, Float, length};
-ghost use Rattle.corner.specs.Corner.{absent};
-ghost use Rattle.table.specs.Table.{table};
-ghost use Rattle.script_answers.specs.Answers.{flip_answer, collapse_answer, split_edge_answer, split_face_answer, same_wings};
+ghost use Rattle.std.specs.Prelude.{◌≡◌};
+ghost use Rattle.refusal.specs.Refusal.{answer_of};
+ghost use Rattle.table.specs.Parts.{seen};
+ghost use Rattle.script_command.specs.Checks.{first as first_of};
+ghost use Rattle.script_answers.specs.Answers.{corner_target, face_target, not_finite, no_room, no_opposite, same_wings};
+ghost use Rattle.script_answers.specs.Answers.{flip_answer, collapse_answer, split_edge_answer, split_face_answer};
 
 use corner::{Corner, Face};
-use script_command::{corners_for, first, room_for, targeted, when};
-use table::Counts;
+use edge_collapse::Judgement;
+use refusal::Refusal;
+use script_command::{corners_for, room_for, targeted};
+use table::Seen;
 use vertex::Point;
 
-// 12.
-fn same_wings(cv: &[u32], co: &[u32], c: Corner) -> u32
-    ensures { (cm vc vm : List ℕ) (vp : List Float) (i j : ℕ)
-        → result ≡ same_wings (table cv.now co.now cm vc vm vp i j) c.0 }
+// ---- the checks
+
+fn corner_target(t: &Seen, c: Corner) -> Result<(), Refusal>
+    ensures { answer_of result ≡ corner_target (seen t.now) c.0 }
 {
-    let o = table::at(co, c.0 as usize, 4294967295);
-    when(
-        table::at(cv, c.0 as usize, 0) == table::at(cv, o as usize, 0),
-        12,
-    )
+    targeted(c.0 < t.corners, table::at(t.cm, c.0 as usize, 1))
 }
 
-pub fn flip_answer(cv: &[u32], co: &[u32], cm: &[u32], corners: u32, c: Corner) -> u32
-    ensures { (vc vm : List ℕ) (vp : List Float) (i : ℕ)
-        → result ≡ flip_answer (table cv.now co.now cm.now vc vm vp i corners) c.0 }
+fn face_target(t: &Seen, f: Face) -> Result<(), Refusal>
+    ensures { answer_of result ≡ face_target (seen t.now) f.0 }
 {
-    let a = targeted(c.0 < corners, table::at(cm, c.0 as usize, 1));
-    let b = when(table::at(co, c.0 as usize, 4294967295) == 4294967295, 11);
-    let w = same_wings(cv, co, c);
-    first(a, first(b, w))
+    targeted(f.0 < t.corners / 3, table::at(t.cm, 3 * (f.0 as usize), 1))
 }
 
-pub fn split_edge_answer(
-    co: &[u32],
-    cm: &[u32],
-    vroom: usize,
-    counts: Counts,
-    c: Corner,
-    p: Point,
-) -> u32
-    ensures { (cv vc vm : List ℕ) (vp : List Float) → length vm ≡ vroom →
-        result ≡ split_edge_answer (table cv co.now cm.now vc vm vp counts.vertices counts.corners) c.0 p }
+fn not_finite(p: Point) -> Result<(), Refusal>
+    ensures { answer_of result ≡ not_finite p }
 {
-    let a = targeted(c.0 < counts.corners, table::at(cm, c.0 as usize, 1));
-    let good = p.finite();
-    let b = when(!good, 4);
-    let n = corners_for(table::at(co, c.0 as usize, 4294967295));
-    let d = room_for(counts.vertices, vroom, counts.corners, cm.len(), n);
-    first(a, first(b, d))
-}
-
-pub fn split_face_answer(cm: &[u32], vroom: usize, counts: Counts, f: Face, p: Point) -> u32
-    ensures { (cv co vc vm : List ℕ) (vp : List Float) → length vm ≡ vroom →
-        result ≡ split_face_answer (table cv co cm.now vc vm vp counts.vertices counts.corners) f.0 p }
-{
-    let t = targeted(
-        f.0 < counts.corners / 3,
-        table::at(cm, 3 * (f.0 as usize), 1),
-    );
-    let good = p.finite();
-    let b = when(!good, 4);
-    let d = room_for(counts.vertices, vroom, counts.corners, cm.len(), 6);
-    first(t, first(b, d))
-}
-
-// The rings are walked only where no cheaper check refuses.
-pub fn collapse_answer(
-    cv: &[u32],
-    co: &[u32],
-    cm: &[u32],
-    vc: &[u32],
-    corners: u32,
-    c: Corner,
-    p: Point,
-) -> u32
-    requires { corners < absent }
-    ensures { (vm : List ℕ) (vp : List Float) (i : ℕ)
-        → result ≡ collapse_answer (table cv.now co.now cm.now vc.now vm vp i corners) c.0 p }
-{
-    let t = targeted(c.0 < corners, table::at(cm, c.0 as usize, 1));
-    let good = p.finite();
-    let a = first(t, when(!good, 4));
-    if a != 0 {
-        return a;
+    if p.finite() {
+        Ok(())
+    } else {
+        Err(Refusal::NotFinite)
     }
-    let j = edge_collapse::judge(cv, co, vc, corners, c);
-    if j.boundary {
-        return 11;
+}
+
+fn no_opposite(t: &Seen, c: Corner) -> Result<(), Refusal>
+    ensures { answer_of result ≡ no_opposite (seen t.now) c.0 }
+{
+    if table::opposite_of(t.co, c).is_absent() {
+        Err(Refusal::Border)
+    } else {
+        Ok(())
     }
-    let w = same_wings(cv, co, c);
-    if w != 0 {
-        return w;
+}
+
+fn same_wings(t: &Seen, c: Corner) -> Result<(), Refusal>
+    ensures { answer_of result ≡ same_wings (seen t.now) c.0 }
+{
+    let o = table::opposite_of(t.co, c);
+    if table::vertex_of(t.cv, c) == table::vertex_of(t.cv, o) {
+        Err(Refusal::SameVertex)
+    } else {
+        Ok(())
     }
-    when(j.bad, 13)
+}
+
+fn no_room(t: &Seen, n: u32) -> Result<(), Refusal>
+    ensures { answer_of result ≡ no_room (seen t.now) n }
+{
+    room_for(t.vertices, t.vm.len(), t.corners, t.cm.len(), n)
+}
+
+// A new vertex at p, and n new corners.
+#[tactic(auto, using(script_command::proofs::Chain::chain))]
+fn no_place(t: &Seen, p: Point, n: u32) -> Result<(), Refusal>
+    ensures { answer_of result ≡ first_of (not_finite p) (no_room (seen t.now) n) }
+{
+    not_finite(p)?;
+    no_room(t, n)
+}
+
+// ---- the kinds
+
+#[tactic(auto, using(script_command::proofs::Chain::chain), unfolding(crate::specs::Answers::flip_answer))]
+pub fn flip_answer(t: &Seen, c: Corner) -> Result<(), Refusal>
+    ensures { answer_of result ≡ flip_answer (seen t.now) c.0 }
+{
+    corner_target(t, c)?;
+    no_opposite(t, c)?;
+    same_wings(t, c)
+}
+
+#[tactic(auto, using(script_command::proofs::Chain::chain), unfolding(crate::specs::Answers::split_edge_answer))]
+pub fn split_edge_answer(t: &Seen, c: Corner, p: Point) -> Result<(), Refusal>
+    ensures { answer_of result ≡ split_edge_answer (seen t.now) c.0 p }
+{
+    corner_target(t, c)?;
+    let n = corners_for(table::opposite_of(t.co, c));
+    no_place(t, p, n)
+}
+
+#[tactic(auto, using(script_command::proofs::Chain::chain), unfolding(crate::specs::Answers::split_face_answer))]
+pub fn split_face_answer(t: &Seen, f: Face, p: Point) -> Result<(), Refusal>
+    ensures { answer_of result ≡ split_face_answer (seen t.now) f.0 p }
+{
+    face_target(t, f)?;
+    no_place(t, p, 6)
+}
+
+#[tactic(auto, using(crate::proofs::Told::told), unfolding(crate::specs::Answers::collapse_answer))]
+pub fn collapse_answer(t: &Seen, c: Corner, p: Point) -> Result<(), Refusal>
+    ensures { answer_of result ≡ collapse_answer (seen t.now) c.0 p }
+{
+    // The rings are walked only where no cheaper check refuses.
+    corner_target(t, c)?;
+    not_finite(p)?;
+    match edge_collapse::judge(t, c) {
+        Judgement::Boundary => Err(Refusal::Border),
+        Judgement::Unsafe => {
+            same_wings(t, c)?;
+            Err(Refusal::Unsafe)
+        }
+        Judgement::Safe => same_wings(t, c),
+    }
 }

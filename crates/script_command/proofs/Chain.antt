@@ -1,34 +1,30 @@
--- A chain of checks. Assumes nothing.
+-- A chain of checks: as numbers, and as Results that `?` joins. Assumes nothing.
 use Prim.Native.Nat.{ℕ, ◌<◌}
-use mathlib.Core.Path.{◌≡◌, refl, sym, ◌∙◌}
+use mathlib.Core.Path.{◌≡◌, refl, sym, ap, ◌∙◌}
 use mathlib.Core.Bool.{Bool, true, false, cond}
 use native.Mathlib.Omega.{arith}
 use native.Mathlib.Decide.{ℕ_discrete}
 use borrow.Author.Tests.{eq-eqb, ne_eqb}
 use lib.Dec.{eqb}
+use Rattle.refusal.specs.declared.Refusal.{Refusal}
+use Rattle.refusal.specs.Refusal.{number_of}
+use Rattle.refusal.proofs.Numbers.{numbered, handed_on}
 use Rattle.script_command.specs.Checks.{first, when}
 
+-- ---- by Results
+
 -- a check that refuses ends the chain; one that passes hands on
-pub first_stop : (a b : ℕ) → (a ≡ 0 → ⊥) → a ≡ first a b
+pub refuses : (e : Refusal) (a b : ℕ) → number_of e ≡ a → first a b ≡ number_of e
 unfolding first
-first_stop a b h = rw (ne_eqb a 0 h)
+refuses e a b h = rw (← h, numbered e)
 
-pub first_on : (a b r : ℕ) → a ≡ 0 → r ≡ b → r ≡ first a b
+pub passes : (a b : ℕ) → 0 ≡ a → first a b ≡ b
 unfolding first
-first_on a b r h e = rw (eq-eqb a 0 h) e
+passes a b h = rw (eq-eqb a 0 (sym h))
 
--- the same for a check a that is x
-pub stop_at : (a x b : ℕ) → a ≡ x → (a ≡ 0 → ⊥) → a ≡ first x b
-stop_at a x b e h = rw (← e) (first_stop a b h)
+pub ruleset chain = (handed_on, refuses, passes)
 
-pub go_on : (a x b r : ℕ) → a ≡ x → a ≡ 0 → r ≡ b → r ≡ first x b
-go_on a x b r e h k = rw (← e) (first_on a b r h k)
-
-pub stop_when : (n : ℕ) (t : Bool) (b : ℕ) → t ≡ true → (n ≡ 0 → ⊥) → n ≡ first (when t n) b
-stop_when n t b h k = rw h (first_stop n b k)
-
-pub on_when : (n : ℕ) (t : Bool) (b r : ℕ) → t ≡ false → r ≡ b → r ≡ first (when t n) b
-on_when n t b r h k = rw h (first_on 0 b r refl k)
+-- ---- by numbers
 
 -- a chain that answers 0 has passed each check
 pub first_left : (a b : ℕ) → first a b ≡ 0 → a ≡ 0
@@ -47,6 +43,15 @@ pub when_false : (t : Bool) (n : ℕ) → 0 < n → when t n ≡ 0 → t ≡ fal
 when_false true n p h = absurd (omega arith)
 when_false false n p h = refl
 
+-- a check that always passes may stand last
+pub first_none : (a : ℕ) → first a 0 ≡ a
+unfolding first
+first_none a = go (ℕ_discrete a 0)
+  where
+    go : Dec (a ≡ 0) → cond (eqb a 0) 0 a ≡ a
+    go (yes e) = rw (eq-eqb a 0 e) (sym e)
+    go (no e) = rw (ne_eqb a 0 e)
+
 -- two chains whose checks are the same as far as they are reached
 pub first_same : (a b x y : ℕ) → a ≡ x → (a ≡ 0 → b ≡ y) → first a b ≡ first x y
 unfolding first
@@ -55,11 +60,3 @@ first_same a b x y p q = go (ℕ_discrete a 0)
     go : Dec (a ≡ 0) → cond (eqb a 0) b a ≡ cond (eqb x 0) y x
     go (yes e) = rw (eq-eqb a 0 e, eq-eqb x 0 (sym p ∙ e)) (q e)
     go (no e) = rw (ne_eqb a 0 e, ne_eqb x 0 (λ z. e (p ∙ z))) p
-
-pub first_assoc : (a b c : ℕ) → first (first a b) c ≡ first a (first b c)
-unfolding first
-first_assoc a b c = go (ℕ_discrete a 0)
-  where
-    go : Dec (a ≡ 0) → cond (eqb (cond (eqb a 0) b a) 0) c (cond (eqb a 0) b a) ≡ cond (eqb a 0) (cond (eqb b 0) c b) a
-    go (yes e) = rw (eq-eqb a 0 e)
-    go (no e) = rw (ne_eqb a 0 e, ne_eqb a 0 e)

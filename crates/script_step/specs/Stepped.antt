@@ -6,11 +6,11 @@ use Rattle.script_command.specs.declared.Edit.{Edit}
 use Rattle.script_answers.specs.Answers.{answer}
 use Rattle.script_step.specs.Step.{step}
 
--- a flip is lent four parts: those of some good table
-pub record GoodFour (cv co cm vc : List ℕ) (vertices corners : ℕ) : Type 0 where
+-- a flip reads and writes four parts: those of some good table
+pub record GoodFour (t : Table) : Type 0 where
   pub vm : List ℕ
   pub vp : List Float
-  pub good : Good (table cv co cm vc vm vp vertices corners)
+  pub good : Good (table t.corner_vertex t.corner_opposite t.corner_mark t.vertex_corner vm vp t.vertices t.corners)
 
 pub record Stepped (t : Table) (e : Edit) (a : ℕ) (u : Table) : Type 0 where
   pub answered : a ≡ answer t e

@@ -1,159 +1,73 @@
-// One command on a table: answered first, and done where the answer is 0.
+// One command on a table: answered first, and done where nothing stands in its way.
 #![tactic(auto)]
 
-ghost use Rattle.std.specs.Prelude.{List, ℕ, Float};
-ghost use Rattle.table.specs.Table.{table};
-ghost use Rattle.table.specs.Lent.{lent, before, after};
+ghost use Rattle.refusal.specs.Refusal.{answer_of};
+ghost use Rattle.table.specs.Parts.{lent, SameParts};
 ghost use Rattle.table.specs.Rules.{Good};
 ghost use Rattle.script_command.specs.declared.Edit.TheVariants.{Collapse, Flip, SplitEdge, SplitFace};
 ghost use Rattle.script_step.specs.Stepped.{GoodFour, Stepped};
 
 use corner::{Corner, Face};
+use refusal::Refusal;
 use script_command::Edit;
-use table::Counts;
+use table::Lent;
 use vertex::Point;
 
-// The answer of a command, and the counts after it.
-#[derive(Clone, Copy)]
-pub struct Done {
-    pub answer: u32,
-    pub counts: Counts,
+// One function a kind: each has its own clause. `Good` is asked of each, and no field of the table holds it: it does not stand between the
+// writes of an edit.
+
+pub fn flip(t: &mut Lent, c: Corner) -> Result<(), Refusal>
+    requires { GoodFour (lent t.old) }
+    ensures parts { SameParts t.old t.new }
+    ensures stepped { Stepped (lent t.old) (Flip c) (answer_of result) (lent t.new) }
+{
+    script_answers::flip_answer(&t.seen(), c)?;
+    edit_flip::flip_edge(t, c);
+    Ok(())
 }
 
-pub fn flip(
-    cv: &mut [u32],
-    co: &mut [u32],
-    cm: &[u32],
-    vc: &mut [u32],
-    counts: Counts,
-    c: Corner,
-) -> u32
-    requires { GoodFour cv.old co.old cm.now vc.old counts.vertices counts.corners }
-    ensures { (vm : List ℕ) (vp : List Float) → Stepped
-        (table cv.old co.old cm.now vc.old vm vp counts.vertices counts.corners) (Flip c) result
-        (table cv.new co.new cm.now vc.new vm vp counts.vertices counts.corners) }
+pub fn collapse(t: &mut Lent, c: Corner, p: Point) -> Result<(), Refusal>
+    requires { Good (lent t.old) }
+    ensures parts { SameParts t.old t.new }
+    ensures stepped { Stepped (lent t.old) (Collapse c p) (answer_of result) (lent t.new) }
 {
-    let refusal = script_answers::flip_answer(cv, co, cm, counts.corners, c);
-    if refusal != 0 {
-        return refusal;
-    }
-    edit_flip::flip_edge(cv, co, vc, c);
-    0
+    script_answers::collapse_answer(&t.seen(), c, p)?;
+    edit_collapse::collapse_edge(t, c, p);
+    Ok(())
 }
 
-pub fn collapse(
-    cv: &mut [u32],
-    co: &mut [u32],
-    cm: &mut [u32],
-    vc: &mut [u32],
-    vm: &mut [u32],
-    vp: &mut [f32],
-    counts: Counts,
-    c: Corner,
-    p: Point,
-) -> u32
-    requires { Good (lent cv co cm vc vm vp counts) }
-    ensures { Stepped (before cv co cm vc vm vp counts) (Collapse c p) result (after cv co cm vc vm vp counts) }
+pub fn split_edge(t: &mut Lent, c: Corner, p: Point) -> Result<(), Refusal>
+    requires { Good (lent t.old) }
+    ensures parts { SameParts t.old t.new }
+    ensures stepped { Stepped (lent t.old) (SplitEdge c p) (answer_of result) (lent t.new) }
 {
-    let a = script_answers::collapse_answer(cv, co, cm, vc, counts.corners, c, p);
-    if a != 0 {
-        return a;
-    }
-    edit_collapse::collapse_edge(cv, co, cm, vc, vm, vp, counts, c, p);
-    0
+    script_answers::split_edge_answer(&t.seen(), c, p)?;
+    edit_split_edge::split_edge(t, c, p);
+    Ok(())
 }
 
-pub fn split_edge(
-    cv: &mut [u32],
-    co: &mut [u32],
-    cm: &mut [u32],
-    vc: &mut [u32],
-    vm: &mut [u32],
-    vp: &mut [f32],
-    counts: Counts,
-    c: Corner,
-    p: Point,
-) -> Done
-    requires { Good (lent cv co cm vc vm vp counts) }
-    ensures { Stepped (before cv co cm vc vm vp counts) (SplitEdge c p) result.answer (after cv co cm vc vm vp result.counts) }
+pub fn split_face(t: &mut Lent, f: Face, p: Point) -> Result<(), Refusal>
+    requires { Good (lent t.old) }
+    ensures parts { SameParts t.old t.new }
+    ensures stepped { Stepped (lent t.old) (SplitFace f p) (answer_of result) (lent t.new) }
 {
-    let a = script_answers::split_edge_answer(co, cm, vm.len(), counts, c, p);
-    if a != 0 {
-        return Done {
-            answer: a,
-            counts: counts,
-        };
-    }
-    let made = edit_split_edge::split_edge(cv, co, cm, vc, vm, vp, counts, c, p);
-    Done {
-        answer: 0,
-        counts: made,
-    }
-}
-
-pub fn split_face(
-    cv: &mut [u32],
-    co: &mut [u32],
-    cm: &mut [u32],
-    vc: &mut [u32],
-    vm: &mut [u32],
-    vp: &mut [f32],
-    counts: Counts,
-    f: Face,
-    p: Point,
-) -> Done
-    requires { Good (lent cv co cm vc vm vp counts) }
-    ensures { Stepped (before cv co cm vc vm vp counts) (SplitFace f p) result.answer (after cv co cm vc vm vp result.counts) }
-{
-    let a = script_answers::split_face_answer(cm, vm.len(), counts, f, p);
-    if a != 0 {
-        return Done {
-            answer: a,
-            counts: counts,
-        };
-    }
-    let made = edit_split_face::split_face(cv, co, cm, vc, vm, vp, counts, f, p);
-    Done {
-        answer: 0,
-        counts: made,
-    }
+    script_answers::split_face_answer(&t.seen(), f, p)?;
+    edit_split_face::split_face(t, f, p);
+    Ok(())
 }
 
 // ---- any command, by its kind
 
-pub fn step(
-    cv: &mut [u32],
-    co: &mut [u32],
-    cm: &mut [u32],
-    vc: &mut [u32],
-    vm: &mut [u32],
-    vp: &mut [f32],
-    counts: Counts,
-    e: Edit,
-) -> Done
-    requires { Good (lent cv co cm vc vm vp counts) }
-    ensures { Stepped (before cv co cm vc vm vp counts) e result.answer (after cv co cm vc vm vp result.counts) }
+pub fn step(t: &mut Lent, e: Edit) -> Result<(), Refusal>
+    requires { Good (lent t.old) }
+    ensures parts { SameParts t.old t.new }
+    ensures stepped { Stepped (lent t.old) e (answer_of result) (lent t.new) }
 {
     match e {
-        Edit::Collapse(c, p) => {
-            let a = collapse(cv, co, cm, vc, vm, vp, counts, c, p);
-            Done {
-                answer: a,
-                counts: counts,
-            }
-        }
-        Edit::Flip(c) => {
-            let a = flip(cv, co, cm, vc, counts, c);
-            Done {
-                answer: a,
-                counts: counts,
-            }
-        }
-        Edit::SplitEdge(c, p) => split_edge(cv, co, cm, vc, vm, vp, counts, c, p),
-        Edit::SplitFace(f, p) => split_face(cv, co, cm, vc, vm, vp, counts, f, p),
-        Edit::Unknown => Done {
-            answer: 14,
-            counts: counts,
-        },
+        Edit::Collapse(c, p) => collapse(t, c, p),
+        Edit::Flip(c) => flip(t, c),
+        Edit::SplitEdge(c, p) => split_edge(t, c, p),
+        Edit::SplitFace(f, p) => split_face(t, f, p),
+        Edit::Unknown => Err(Refusal::UnknownKind),
     }
 }

@@ -1,6 +1,6 @@
 -- A move that C gets is the definition's, where the walker's function answers the definition and the answer is told. Assumes nothing.
 use mathlib.Core.Path.{◌≡◌, refl, subst}
-use Rattle.walker.specs.declared.Moved.{Moved as Move}
+use Rattle.walker.specs.Walker.{Moved as Move}
 use Rattle.strandomir.specs.declared.Moved.{Moved}
 use Rattle.strandomir.specs.Told.{told, MovedBy}
 

@@ -1,28 +1,26 @@
-// The public face: every entry point, in C's terms; the archive `strandomir_c` exports them. Each takes any bytes, and none has a
-// `requires`; what it answers and leaves is the contract of the function that it calls. include/strandomir.h says the same for a caller
-// in C.
-//
-// The parts of a table: the corners' vertices, opposites and marks (cv, co, cm), the vertices' corners, marks and points (vc, vm, vp). The
-// counts, a corner and a vertex go as numbers: C knows no `Counts`, `Corner` or `Vertex`.
+// What C gets: the answers of the calls, as structs of numbers, since C has no `Result`. The archive `strandomir_c` has the calls; include/strandomir.h says the
+// same for a caller in C.
 #![tactic(auto)]
 
 ghost use Rattle.std.specs.Prelude.{◌≡◌};
-ghost use Rattle.table.specs.Lent.{counts_of, before, after, seen};
-ghost use Rattle.builder_build.specs.Build.{built, build as build_of};
-ghost use Rattle.checker.specs.Order.{verdict_of};
-ghost use Rattle.script.specs.Run.{RunOutcome};
-ghost use Rattle.traversal.specs.Ring.{ring_of};
-ghost use Rattle.traversal_lists.specs.declared.Kind.TheVariants.{Corners, Vertices, Faces, Edges, BoundingEdges};
-ghost use Rattle.walker.specs.Walker.{to_next, to_previous, to_opposite, swung_left, swung_right};
-ghost use Rattle.strandomir.specs.Told.{verdict, listing, told as told_of, MovedBy};
+ghost use Rattle.refusal.specs.Refusal.{answer_of};
+ghost use Rattle.table.specs.Parts.{seen};
+ghost use Rattle.builder.specs.Calls.{skipped_of};
+ghost use Rattle.script.specs.Told.{answer_told, rule_told, slot_told};
+ghost use Rattle.walker.specs.Walker.{moved_by};
+ghost use Rattle.strandomir.specs.Told.{IsVerdict, IsListing, MovedBy};
 
+use checker::Fault;
 use corner::Corner;
-use table::Counts;
-use vertex::Vertex;
+use refusal::Refusal;
+use script::Unrun;
+use table::Seen;
+use traversal_lists::Ring;
+use walker::{Move, Walker};
 
 // What a build answers: the counts are those of the table it leaves.
 #[repr(C)]
-#[derive(Clone, Copy)]
+#[derive(Clone, Copy, PartialEq, Eq)]
 pub struct Built {
     pub answer: u32,
     pub vertices: u32,
@@ -32,7 +30,7 @@ pub struct Built {
 
 // What a check answers: rule and slot are 0 but for 7.
 #[repr(C)]
-#[derive(Clone, Copy)]
+#[derive(Clone, Copy, PartialEq, Eq)]
 pub struct Checked {
     pub answer: u32,
     pub rule: u32,
@@ -41,7 +39,7 @@ pub struct Checked {
 
 // What a run answers: a check's answer, and the counts of the table it leaves.
 #[repr(C)]
-#[derive(Clone, Copy)]
+#[derive(Clone, Copy, PartialEq, Eq)]
 pub struct Ran {
     pub answer: u32,
     pub rule: u32,
@@ -52,7 +50,7 @@ pub struct Ran {
 
 // What a ring answers.
 #[repr(C)]
-#[derive(Clone, Copy)]
+#[derive(Clone, Copy, PartialEq, Eq)]
 pub struct Listed {
     pub answer: u32,
     pub visited: u32,
@@ -61,377 +59,109 @@ pub struct Listed {
 
 // What a move answers: `moved` is 1 where the walker moved, else 0.
 #[repr(C)]
-#[derive(Clone, Copy)]
+#[derive(Clone, Copy, PartialEq, Eq)]
 pub struct Moved {
     pub answer: u32,
     pub moved: u32,
 }
 
-// ---- build, check, run
-
-// Takes any six parts with their counts, points (three numbers each) and faces (three vertices each). Answers 0, 1, 2, 3, 4, 5 or 6,
-// the faces skipped and the new counts. Leaves the table built; blank, where it is refused; untouched, where the answer is 1.
-#[unsafe(no_mangle)]
-pub extern "C" fn strandomir_build(
-    cv: &mut [u32],
-    co: &mut [u32],
-    cm: &mut [u32],
-    vc: &mut [u32],
-    vm: &mut [u32],
-    vp: &mut [f32],
-    vertices: u32,
-    corners: u32,
-    points: &[f32],
-    faces: &[u32],
-) -> Built
-    ensures { built result.answer result.skipped (after cv co cm vc vm vp (counts_of result.vertices result.corners))
-        ≡ build_of (before cv co cm vc vm vp (counts_of vertices corners)) points.now faces.now }
-{
-    let counts = Counts {
-        vertices: vertices,
-        corners: corners,
-    };
-    let b = builder::build(cv, co, cm, vc, vm, vp, counts, points, faces);
-    let after = b.counts;
-    Built {
-        answer: b.answer,
-        vertices: after.vertices,
-        corners: after.corners,
-        skipped: b.skipped,
+impl Built {
+    pub fn new(of: Result<usize, Refusal>, vertices: u32, corners: u32) -> Self
+        ensures answer { result.answer ≡ answer_of of }
+        ensures skipped { result.skipped ≡ skipped_of of }
+        ensures vertices { result.vertices ≡ vertices }
+        ensures corners { result.corners ≡ corners }
+    {
+        let answer = refusal::answer(&of);
+        let skipped = of.unwrap_or(0);
+        Built {
+            answer,
+            vertices,
+            corners,
+            skipped,
+        }
     }
 }
 
-// Takes any table. Answers 0 where it is well-formed, 1, or 7 with the lowest broken rule and the lowest slot that breaks it.
-// It only reads.
-#[unsafe(no_mangle)]
-pub extern "C" fn strandomir_check(
-    cv: &[u32],
-    co: &[u32],
-    cm: &[u32],
-    vc: &[u32],
-    vm: &[u32],
-    vp: &[f32],
-    vertices: u32,
-    corners: u32,
-) -> Checked
-    ensures { verdict result ≡ verdict_of (seen cv co cm vc vm vp (counts_of vertices corners)) }
-{
-    let counts = Counts {
-        vertices: vertices,
-        corners: corners,
-    };
-    let v = checker::check(cv, co, cm, vc, vm, vp, counts);
-    Checked {
-        answer: v.answer,
-        rule: v.rule,
-        slot: v.slot,
+impl From<Result<(), Fault>> for Checked {
+    ghost from_gives = { IsVerdict };
+
+    fn from(of: Result<(), Fault>) -> Checked {
+        match of {
+            Ok(()) => Checked {
+                answer: 0,
+                rule: 0,
+                slot: 0,
+            },
+            Err(Fault::Parts) => Checked {
+                answer: Refusal::Parts.number(),
+                rule: 0,
+                slot: 0,
+            },
+            Err(Fault::Broken { rule, slot }) => Checked {
+                answer: Refusal::NotWellFormed.number(),
+                rule,
+                slot,
+            },
+        }
     }
 }
 
-// Takes any table, a script of five words a command, and room for one answer word each. Answers 0, 1, 8, or 7 with rule and slot, and the
-// counts after it. Leaves a well-formed table, V−E+F as it was, and an answer word for each command; after 1, 8 or 7 all is untouched.
-#[unsafe(no_mangle)]
-pub extern "C" fn strandomir_run(
-    cv: &mut [u32],
-    co: &mut [u32],
-    cm: &mut [u32],
-    vc: &mut [u32],
-    vm: &mut [u32],
-    vp: &mut [f32],
-    vertices: u32,
-    corners: u32,
-    script: &[u32],
-    answers: &mut [u32],
-) -> Ran
-    ensures { RunOutcome script.now answers.old (before cv co cm vc vm vp (counts_of vertices corners))
-        result.answer result.rule result.slot answers.new (after cv co cm vc vm vp (counts_of result.vertices result.corners)) }
-{
-    let counts = Counts {
-        vertices: vertices,
-        corners: corners,
-    };
-    let r = script::run(cv, co, cm, vc, vm, vp, counts, script, answers);
-    let after = r.counts;
-    Ran {
-        answer: r.answer,
-        rule: r.rule,
-        slot: r.slot,
-        vertices: after.vertices,
-        corners: after.corners,
+impl Ran {
+    pub fn new(of: Result<(), Unrun>, vertices: u32, corners: u32) -> Self
+        ensures answer { result.answer ≡ answer_told of }
+        ensures rule { result.rule ≡ rule_told of }
+        ensures slot { result.slot ≡ slot_told of }
+        ensures vertices { result.vertices ≡ vertices }
+        ensures corners { result.corners ≡ corners }
+    {
+        let broken = Refusal::NotWellFormed.number();
+        let (answer, rule, slot) = match of {
+            Ok(()) => (0, 0, 0),
+            Err(Unrun::Misfit) => (Refusal::Misfit.number(), 0, 0),
+            Err(Unrun::Table(Fault::Parts)) => (Refusal::Parts.number(), 0, 0),
+            Err(Unrun::Table(Fault::Broken { rule, slot })) => (broken, rule, slot),
+        };
+        Ran {
+            answer,
+            rule,
+            slot,
+            vertices,
+            corners,
+        }
     }
 }
 
-// ---- rings
-//
-// Each takes any table, a vertex and a lent list. It answers 0, 1, 9, 10, 15 or 16, how many corners the walk visited and how many entries
-// it wrote, and leaves those at the front of the list. The table is only read; a refused call writes nothing.
+impl From<Result<Ring, Refusal>> for Listed {
+    ghost from_gives = { IsListing };
 
-// The corners around a vertex.
-#[unsafe(no_mangle)]
-pub extern "C" fn strandomir_ring_corners(
-    cv: &[u32],
-    co: &[u32],
-    cm: &[u32],
-    vc: &[u32],
-    vm: &[u32],
-    vp: &[f32],
-    vertices: u32,
-    corners: u32,
-    vertex: u32,
-    list: &mut [u32],
-) -> Listed
-    ensures { listing result list.new ≡ ring_of Corners vertex (seen cv co cm vc vm vp (counts_of vertices corners))
-        list.old }
-{
-    let counts = Counts {
-        vertices: vertices,
-        corners: corners,
-    };
-    let r = traversal::ring_corners(cv, co, cm, vc, vm, vp, counts, Vertex(vertex), list);
-    Listed {
-        answer: r.answer,
-        visited: r.visited,
-        written: r.written,
+    fn from(of: Result<Ring, Refusal>) -> Listed {
+        match of {
+            Ok(ring) => Listed {
+                answer: 0,
+                visited: ring.visited,
+                written: ring.written,
+            },
+            Err(e) => Listed {
+                answer: e.number(),
+                visited: 0,
+                written: 0,
+            },
+        }
     }
 }
 
-// The vertices next to a vertex.
-#[unsafe(no_mangle)]
-pub extern "C" fn strandomir_ring_vertices(
-    cv: &[u32],
-    co: &[u32],
-    cm: &[u32],
-    vc: &[u32],
-    vm: &[u32],
-    vp: &[f32],
-    vertices: u32,
-    corners: u32,
-    vertex: u32,
-    list: &mut [u32],
-) -> Listed
-    ensures { listing result list.new ≡ ring_of Vertices vertex (seen cv co cm vc vm vp (counts_of vertices corners))
-        list.old }
+// A move in C's terms: the corner is left where the walker then stands.
+pub fn go(to: Move, t: &Seen, corner: &mut u32) -> Moved
+    ensures { MovedBy (moved_by to (seen t.now) corner.old) result corner.new }
 {
-    let counts = Counts {
-        vertices: vertices,
-        corners: corners,
+    let mut walker = Walker {
+        corner: Corner(*corner),
     };
-    let r = traversal::ring_vertices(cv, co, cm, vc, vm, vp, counts, Vertex(vertex), list);
-    Listed {
-        answer: r.answer,
-        visited: r.visited,
-        written: r.written,
-    }
-}
-
-// The faces around a vertex.
-#[unsafe(no_mangle)]
-pub extern "C" fn strandomir_ring_faces(
-    cv: &[u32],
-    co: &[u32],
-    cm: &[u32],
-    vc: &[u32],
-    vm: &[u32],
-    vp: &[f32],
-    vertices: u32,
-    corners: u32,
-    vertex: u32,
-    list: &mut [u32],
-) -> Listed
-    ensures { listing result list.new ≡ ring_of Faces vertex (seen cv co cm vc vm vp (counts_of vertices corners))
-        list.old }
-{
-    let counts = Counts {
-        vertices: vertices,
-        corners: corners,
-    };
-    let r = traversal::ring_faces(cv, co, cm, vc, vm, vp, counts, Vertex(vertex), list);
-    Listed {
-        answer: r.answer,
-        visited: r.visited,
-        written: r.written,
-    }
-}
-
-// The edges at a vertex, each as its corner.
-#[unsafe(no_mangle)]
-pub extern "C" fn strandomir_ring_edges(
-    cv: &[u32],
-    co: &[u32],
-    cm: &[u32],
-    vc: &[u32],
-    vm: &[u32],
-    vp: &[f32],
-    vertices: u32,
-    corners: u32,
-    vertex: u32,
-    list: &mut [u32],
-) -> Listed
-    ensures { listing result list.new ≡ ring_of Edges vertex (seen cv co cm vc vm vp (counts_of vertices corners))
-        list.old }
-{
-    let counts = Counts {
-        vertices: vertices,
-        corners: corners,
-    };
-    let r = traversal::ring_edges(cv, co, cm, vc, vm, vp, counts, Vertex(vertex), list);
-    Listed {
-        answer: r.answer,
-        visited: r.visited,
-        written: r.written,
-    }
-}
-
-// The edges opposite a vertex, each as its corner.
-#[unsafe(no_mangle)]
-pub extern "C" fn strandomir_ring_bounding_edges(
-    cv: &[u32],
-    co: &[u32],
-    cm: &[u32],
-    vc: &[u32],
-    vm: &[u32],
-    vp: &[f32],
-    vertices: u32,
-    corners: u32,
-    vertex: u32,
-    list: &mut [u32],
-) -> Listed
-    ensures { listing result list.new ≡ ring_of BoundingEdges vertex (seen cv co cm vc vm vp (counts_of vertices corners))
-        list.old }
-{
-    let counts = Counts {
-        vertices: vertices,
-        corners: corners,
-    };
-    let r = traversal::ring_bounding_edges(cv, co, cm, vc, vm, vp, counts, Vertex(vertex), list);
-    Listed {
-        answer: r.answer,
-        visited: r.visited,
-        written: r.written,
-    }
-}
-
-// ---- moves
-//
-// Each takes the corner that a walker stands at, and any table. It answers 0, 1, 9, 10 or 15 and whether the walker moved, and leaves the
-// corner that it moved to: the old one after a refusal, and where there is no opposite. The table is only read.
-
-// A step in C's terms.
-fn told(step: walker::Step) -> Moved
-    ensures { result ≡ told_of step }
-{
+    let step = walker.go(to, t);
+    *corner = walker.corner.0;
     Moved {
-        answer: step.answer,
-        moved: flag::one_if(step.moved),
+        answer: refusal::answer(&step),
+        moved: u32::from(step.unwrap_or(false)),
     }
-}
-
-// To the next corner of the face.
-#[unsafe(no_mangle)]
-pub extern "C" fn strandomir_move_to_next<'s, 'a>(
-    corner: &'s mut u32,
-    cv: &'a [u32],
-    co: &'a [u32],
-    cm: &'a [u32],
-    vc: &'a [u32],
-    vm: &'a [u32],
-    vp: &'a [f32],
-    vertices: u32,
-    corners: u32,
-) -> Moved
-    ensures { MovedBy (to_next (seen cv co cm vc vm vp (counts_of vertices corners))
-        corner.old) result corner.new }
-{
-    let m = walker::next_from(Corner(*corner), cv, co, cm, vc, vm, vp, vertices, corners);
-    let to = m.corner;
-    *corner = to.0;
-    told(m.step)
-}
-
-// To the previous corner of the face.
-#[unsafe(no_mangle)]
-pub extern "C" fn strandomir_move_to_previous<'s, 'a>(
-    corner: &'s mut u32,
-    cv: &'a [u32],
-    co: &'a [u32],
-    cm: &'a [u32],
-    vc: &'a [u32],
-    vm: &'a [u32],
-    vp: &'a [f32],
-    vertices: u32,
-    corners: u32,
-) -> Moved
-    ensures { MovedBy (to_previous (seen cv co cm vc vm vp (counts_of vertices corners))
-        corner.old) result corner.new }
-{
-    let m = walker::previous_from(Corner(*corner), cv, co, cm, vc, vm, vp, vertices, corners);
-    let to = m.corner;
-    *corner = to.0;
-    told(m.step)
-}
-
-// Across the edge that the corner names.
-#[unsafe(no_mangle)]
-pub extern "C" fn strandomir_move_to_opposite<'s, 'a>(
-    corner: &'s mut u32,
-    cv: &'a [u32],
-    co: &'a [u32],
-    cm: &'a [u32],
-    vc: &'a [u32],
-    vm: &'a [u32],
-    vp: &'a [f32],
-    vertices: u32,
-    corners: u32,
-) -> Moved
-    ensures { MovedBy (to_opposite (seen cv co cm vc vm vp (counts_of vertices corners))
-        corner.old) result corner.new }
-{
-    let m = walker::opposite_from(Corner(*corner), cv, co, cm, vc, vm, vp, vertices, corners);
-    let to = m.corner;
-    *corner = to.0;
-    told(m.step)
-}
-
-// About the vertex to the left: next, opposite, next.
-#[unsafe(no_mangle)]
-pub extern "C" fn strandomir_swing_left_or_stay<'s, 'a>(
-    corner: &'s mut u32,
-    cv: &'a [u32],
-    co: &'a [u32],
-    cm: &'a [u32],
-    vc: &'a [u32],
-    vm: &'a [u32],
-    vp: &'a [f32],
-    vertices: u32,
-    corners: u32,
-) -> Moved
-    ensures { MovedBy (swung_left (seen cv co cm vc vm vp (counts_of vertices corners))
-        corner.old) result corner.new }
-{
-    let m = walker::swing_left_from(Corner(*corner), cv, co, cm, vc, vm, vp, vertices, corners);
-    let to = m.corner;
-    *corner = to.0;
-    told(m.step)
-}
-
-// About the vertex to the right: previous, opposite, previous.
-#[unsafe(no_mangle)]
-pub extern "C" fn strandomir_swing_right_or_stay<'s, 'a>(
-    corner: &'s mut u32,
-    cv: &'a [u32],
-    co: &'a [u32],
-    cm: &'a [u32],
-    vc: &'a [u32],
-    vm: &'a [u32],
-    vp: &'a [f32],
-    vertices: u32,
-    corners: u32,
-) -> Moved
-    ensures { MovedBy (swung_right (seen cv co cm vc vm vp (counts_of vertices corners))
-        corner.old) result corner.new }
-{
-    let m = walker::swing_right_from(Corner(*corner), cv, co, cm, vc, vm, vp, vertices, corners);
-    let to = m.corner;
-    *corner = to.0;
-    told(m.step)
 }

@@ -4,7 +4,7 @@ use mathlib.Core.Bool.{true, false}
 use Prim.Native.Nat.{ℕ, ◌*◌, ◌≤◌, ◌<◌}
 use borrow.Author.Tests.{le-leb, lt-leb, eq-eqb, ne_eqb, eqb-true, leb-true}
 use lib.Dec.{eqb}
-use Rattle.flag.proofs.Words.{and_true}
+use Rattle.std.proofs.lemmas.Bool.{and_parts}
 use Rattle.table.specs.Table.{Table, shaped_by, shaped, Shaped, max_corners, max_vertices}
 
 module _ (cv co cm vc vm vp : ℕ) where
@@ -40,11 +40,11 @@ module _ (cv co cm vc vm vp : ℕ) where
 pub shaped_true : (t : Table) → shaped t ≡ true → Shaped t
 unfolding shaped_by
 shaped_true t e =
-    let p1 = and_true _ _ e in
-    let p2 = and_true _ _ p1.1 in
-    let p3 = and_true _ _ p2.1 in
-    let p4 = and_true _ _ p3.1 in
-    let p5 = and_true _ _ p4.1 in
+    let p1 = and_parts _ _ e in
+    let p2 = and_parts _ _ p1.1 in
+    let p3 = and_parts _ _ p2.1 in
+    let p4 = and_parts _ _ p3.1 in
+    let p5 = and_parts _ _ p4.1 in
     record {
       corner_most = leb-true _ _ p1.0;
       vertex_most = leb-true _ _ p2.0;

@@ -45,3 +45,8 @@ three l n a b c = set (set (set l n a) (n + 1) b) (n + 2) c
 -- v in every slot
 abbrev pub blanked : {A : Type 0} → A → List A → List A
 blanked v l = replicate (length l) v
+
+-- values one after another from n on
+abbrev pub stored : List ℕ → ℕ → List ℕ → List ℕ
+stored l n [] = l
+stored l n (v ∷ vs) = stored (set l n v) (n + 1) vs

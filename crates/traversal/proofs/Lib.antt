@@ -1,4 +1,3 @@
--- Laws of what a ring call answers.
-pub mod Answers
-pub mod Sound
+-- Laws of ring calls on a well-formed table, and on the small meshes.
 pub mod Meshes
+pub mod Sound

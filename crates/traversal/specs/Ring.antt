@@ -24,7 +24,3 @@ ring_of kind v t list =
     (cond (eqb (mark_at t.vertex_mark v) 0) (walked kind t.corner_vertex (walk_of t v) list) (refused_ring 10 list))
     (refused_ring 9 list))
     (refused_ring 1 list)
-
--- the same by what the code has found before the walk: an answer, or 0 with the used corners and the first
-abbrev pub begun : Kind → (cv co cm : List ℕ) → ℕ → (used c : ℕ) → List ℕ → RingOutcome
-begun kind cv co cm answer used c list = cond (eqb answer 0) (walked kind cv (walk co cm used c) list) (refused_ring answer list)

@@ -1,28 +1,26 @@
 -- A walk's outcome, an arm at a time. Assumes nothing.
-use Prim.Native.Nat.{ℕ, suc, ◌+◌, ◌-◌, ◌<◌, ◌≤◌}
+use Prim.Native.Nat.{ℕ, ◌+◌, ◌-◌, ◌<◌, ◌≤◌}
 use mathlib.Core.Path.{◌≡◌, refl, sym, ap, ◌∙◌}
-use mathlib.Core.List.{List, [], ◌∷◌, ◌++◌, map}
+use mathlib.Core.List.{List, ◌∷◌, ◌++◌, map}
 use mathlib.Core.Bool.{Bool, true, false, cond}
 use native.Mathlib.Omega.{arith}
-use native.Mathlib.Nat.{add-zero, zero-add, add-suc, suc-add}
 use native.Mathlib.Numerals.{add-one}
 use borrow.Author.Tests.{leb-true, leb-false, le-leb, lt-leb}
-use lib.ListN.{length, drop, set, length-map, length-append}
-use lib.Seq.{sets, sets-eq}
+use lib.ListN.{length, drop, length-map, length-append}
+use Rattle.std.proofs.lemmas.List.{append_assoc, drop-drop}
 use Rattle.table.specs.Slots.{opposite_at}
 use lib.Dec.{leb}
 use Rattle.corner.specs.Corner.{next, previous}
 use Rattle.traversal_visits.specs.Walk.{face_live, tangled, closed, open', left_of, right_of, walk, visits}
 use Rattle.traversal_lists.specs.Lists.{entry, twice, entries}
-use Rattle.traversal_lists.specs.Outcome.{outcome, refused_ring, listed, walked, needed, too_short}
+use Rattle.traversal_lists.specs.Outcome.{done_ring, refused_ring, listed, walked, needed, too_short}
 use Rattle.traversal_visits.specs.Walk.{counted}
-use Rattle.traversal_lists.specs.Reached.{reached, Inside, Fit}
+use Rattle.traversal_lists.specs.Reached.{reached, Inside}
 use Rattle.traversal_visits.proofs.Counting.{IsClosed, IsOpen, was_tangled, was_closed, was_open}
-use Rattle.traversal_lists.proofs.Reached.{Made, side_made, whole_made}
+use Rattle.traversal_lists.proofs.Reached.{Fit, Made, side_made, whole_made}
 use Rattle.traversal_lists.specs.declared.Kind.{Kind}
 use Rattle.traversal_visits.specs.declared.Counted.{Counted}
 use Rattle.traversal_visits.specs.declared.Counted.TheVariants.{Tangled, Closed, Open}
-use Rattle.traversal_lists.specs.declared.Ring.{Ring}
 
 -- the first corner once more, or not
 length_cond : (b : Bool) (c : ℕ) (r : List ℕ) → length (cond b (c ∷ r) r) ≡ length r + cond b 1 0
@@ -63,34 +61,13 @@ module _ (opp mark : List ℕ) (used c : ℕ) (cv : List ℕ) (fit : Fit cv opp 
       pub right_inside : Inside false opp (length cv) m o
       right_inside = rw (is_m, size, is-o) (right_made b).inside
 
--- ---- what was written
+module _ (n : ℕ) (es list : List ℕ) where
+  listed_done : (v m : ℕ) (last : List ℕ) → v ≡ n → m ≡ length es → length es ≤ length list → last ≡ es ++ drop (length es) list
+      → done_ring v m last ≡ listed n es list
+  listed_done v m last p q h e = rw (le-leb _ _ h, p, q, e)
 
-pub sets_append : (l : List ℕ) (i : ℕ) (xs ys : List ℕ) → sets l i (xs ++ ys) ≡ sets (sets l i xs) (i + length xs) ys
-sets_append l i [] ys = rw add-zero
-sets_append l i (x ∷ xs) ys = sets_append (set l i x) (suc i) xs ys ∙ rw (add-suc, suc-add)
-
-sets_front : (l es : List ℕ) → length es ≤ length l → sets l 0 es ≡ es ++ drop (length es) l
-sets_front l es h = sets-eq es l 0 (rw zero-add h) ∙ rw zero-add
-
--- ---- an answer as an outcome
-
-outcome_is : (r : Ring) (l l' : List ℕ) (a n m : ℕ) → r.answer ≡ a → r.visited ≡ n → r.written ≡ m → l ≡ l'
-    → outcome r l ≡ record { answer = a; visited = n; written = m; list = l' }
-outcome_is r l l' a n m p q s e = λ i. record { answer = p i; visited = q i; written = s i; list = e i }
-
-abbrev pub Refused : Ring → ℕ → Type 0
-Refused r a = (r.answer ≡ a) × (r.visited ≡ 0) × (r.written ≡ 0)
-
-pub refusal : (r : Ring) (l : List ℕ) (a : ℕ) → Refused r a → outcome r l ≡ refused_ring a l
-refusal r l a h = outcome_is r l l a 0 0 h.0 h.1 h.2 refl
-
-module _ (r : Ring) (n : ℕ) (es list : List ℕ) where
-  listed_done : (last : List ℕ) → r.answer ≡ 0 → r.visited ≡ n → r.written ≡ length es → length es ≤ length list → last ≡ sets list 0 es
-      → outcome r last ≡ listed n es list
-  listed_done last a v w h e = rw (le-leb _ _ h, ← sets_front list es h) (outcome_is r last (sets list 0 es) 0 n (length es) a v w e)
-
-  listed_short : Refused r 16 → length list < length es → outcome r list ≡ listed n es list
-  listed_short q h = rw (lt-leb _ _ h) (refusal r list 16 q)
+  listed_short : length list < length es → refused_ring 16 list ≡ listed n es list
+  listed_short h = rw (lt-leb _ _ h)
 
 -- how many entries a walk's list has
 pub one_at_most : (b : Bool) → cond b 1 0 ≤ 1
@@ -108,85 +85,74 @@ open_size kind cv c l r =
 
 -- room for as many entries as the counts say
 module _ (kind : Kind) (w : Counted) (n : ℕ) where
-  pub room_tangled : w ≡ Tangled → leb 1 n ≡ leb (needed kind w) n
-  room_tangled e = rw e
-
-  pub room_closed : (l : ℕ) → w ≡ Closed l → leb (l + 1) n ≡ leb (needed kind w) n
-  room_closed l e = rw e
-
-  pub room_open : (l r x : ℕ) → w ≡ Open l r → x ≡ cond (twice kind) 1 0 → leb (l + 1 + r + x) n ≡ leb (needed kind w) n
-  room_open l r x e h = rw (e, h)
-
   pub has_room : (b : Bool) → b ≡ leb (needed kind w) n → b ≡ true → (v : Counted) → w ≡ v → needed kind v ≤ n
   has_room b is on v e = leb-true (needed kind v) n (ap (λ (x : Counted). leb (needed kind x) n) (sym e) ∙ sym is ∙ on)
 
 module _ (kind : Kind) (cv opp mark : List ℕ) (used c : ℕ) (list : List ℕ) where
-  pub answer_tangled : (r : Ring) → Refused r 15 → walk opp mark used c ≡ tangled → outcome r list ≡ walked kind cv (walk opp mark used c) list
-  answer_tangled r h e = rw e (refusal r list 15 h)
+  pub answer_tangled : walk opp mark used c ≡ tangled → refused_ring 15 list ≡ walked kind cv (walk opp mark used c) list
+  answer_tangled e = rw e
 
-  module _ (n : ℕ) (k : IsClosed opp mark used c n) (r : Ring) where
+  module _ (n : ℕ) (k : IsClosed opp mark used c n) where
     lv : List ℕ
     lv = (left_of opp mark used c).visits
 
-    pub closed_short : Refused r 16 → length list < n + 1 → outcome r list ≡ walked kind cv (walk opp mark used c) list
+    closed_short : length list < n + 1 → refused_ring 16 list ≡ walked kind cv (walk opp mark used c) list
     unfolding lv
-    closed_short h l =
+    closed_short l =
         let size = closed_size kind cv c lv in
-        rw k.is (listed_short r (length (visits (closed c lv))) (entries kind cv (closed c lv)) list h (omega (arith, k.count)))
+        rw k.is (listed_short (length (visits (closed c lv))) (entries kind cv (closed c lv)) list (omega (arith, k.count)))
 
-    pub closed_done : Fit cv opp mark used → (last : List ℕ) → r.answer ≡ 0 → r.visited ≡ n + 1 → r.written ≡ n + 1 → n + 1 ≤ length list
-        → last ≡ sets list 0 (map (entry kind cv true) (reached true opp (n + 1) (previous c)))
-        → outcome r last ≡ walked kind cv (walk opp mark used c) list
+    pub closed_done : Fit cv opp mark used → n + 1 ≤ length list → (front : List ℕ)
+        → front ≡ map (entry kind cv true) (reached true opp (n + 1) (previous c))
+        → done_ring (n + 1) (n + 1) (front ++ drop (n + 1) list) ≡ walked kind cv (walk opp mark used c) list
     unfolding lv
-    closed_done fit last a v w l e =
+    closed_done fit l front e =
         let size = closed_size kind cv c lv in
+        let all : n + 1 ≡ length (entries kind cv (closed c lv)) = omega (arith, k.count) in
+        let els : front ≡ entries kind cv (closed c lv) = e ∙ rw (left_reached opp mark used c cv fit k.face n k.count) in
+        let last : front ++ drop (n + 1) list ≡ entries kind cv (closed c lv) ++ drop (length (entries kind cv (closed c lv))) list =
+        ap (λ (x : List ℕ). x ++ drop (n + 1) list) els ∙ ap (λ (j : ℕ). entries kind cv (closed c lv) ++ drop j list) all in
         rw k.is
-        (listed_done r (length (visits (closed c lv))) (entries kind cv (closed c lv)) list last a
-        (omega (arith, k.count)) (omega (arith, k.count)) (omega (arith, k.count))
-        (e ∙ rw (left_reached opp mark used c cv fit k.face n k.count)))
+        (listed_done (length (visits (closed c lv))) (entries kind cv (closed c lv)) list (n + 1) (n + 1) (front ++ drop (n + 1) list)
+        (omega (arith, k.count)) all (omega arith) last)
 
-  module _ (n m x : ℕ) (k : IsOpen opp mark used c n m) (extra : x ≡ cond (twice kind) 1 0) (r : Ring) where
+  module _ (n m x : ℕ) (k : IsOpen opp mark used c n m) (extra : x ≡ cond (twice kind) 1 0) where
     lv' : List ℕ
     lv' = (left_of opp mark used c).visits
 
     rv : List ℕ
     rv = (right_of opp mark used c).visits
 
-    pub open_short : Refused r 16 → length list < n + 1 + m + x → outcome r list ≡ walked kind cv (walk opp mark used c) list
+    open_short : length list < n + 1 + m + x → refused_ring 16 list ≡ walked kind cv (walk opp mark used c) list
     unfolding lv' rv
-    open_short h l =
+    open_short l =
         let size = open_size kind cv c lv' rv in
-        rw k.is (listed_short r (length (visits (open' c lv' rv))) (entries kind cv (open' c lv' rv)) list h (omega (arith, k.count, k.count')))
+        rw k.is (listed_short (length (visits (open' c lv' rv))) (entries kind cv (open' c lv' rv)) list (omega (arith, k.count, k.count')))
 
-    pub open_done : Fit cv opp mark used → (i o rest : ℕ) (mid last : List ℕ)
-        → r.answer ≡ 0 → r.visited ≡ n + 1 + m → r.written ≡ n + 1 + m + x → n + 1 + m + x ≤ length list → i ≡ n + 1
-        → o ≡ cond (twice kind) (next c) (opposite_at opp (previous c)) → rest ≡ m + x
-        → mid ≡ sets list 0 (map (entry kind cv true) (reached true opp i (previous c)))
-        → last ≡ sets mid i (map (entry kind cv false) (reached false opp rest o))
-        → outcome r last ≡ walked kind cv (walk opp mark used c) list
+    pub open_done : Fit cv opp mark used → n + 1 + m + x ≤ length list → (o rest w : ℕ) (before after : List ℕ)
+        → o ≡ cond (twice kind) (next c) (opposite_at opp (previous c)) → rest ≡ m + x → w ≡ n + 1 + rest
+        → before ≡ map (entry kind cv true) (reached true opp (n + 1) (previous c))
+        → after ≡ map (entry kind cv false) (reached false opp rest o)
+        → done_ring (n + 1 + m) w (before ++ (after ++ drop rest (drop (n + 1) list))) ≡ walked kind cv (walk opp mark used c) list
     unfolding lv' rv
-    open_done fit i o rest mid last a v w l at from count e e' =
+    open_done fit l o rest w before after from count whole e e' =
         let size = open_size kind cv c lv' rv in
-        let els : List ℕ = map (entry kind cv true) (c ∷ lv') in
-        let ers : List ℕ = map (entry kind cv false) (cond (twice kind) (c ∷ rv) rv) in
-        let here : i ≡ 0 + length els = omega (arith, k.count, length-map (c ∷ lv') (entry kind cv true)) in
-        let one : mid ≡ sets list 0 els = e ∙ rw (at, left_reached opp mark used c cv fit k.face n k.count) in
-        let two : last ≡ sets mid i ers = e' ∙ rw (right_reached opp mark used c cv fit k.face (twice kind) m k.count' rest o (count ∙ rw extra) from) in
-        let all : last ≡ sets list 0 (els ++ ers) =
-        two ∙ ap (λ (l' : List ℕ). sets l' i ers) one ∙ ap (λ (j : ℕ). sets (sets list 0 els) j ers) here ∙ sym (sets_append list 0 els ers) in
+        let es : List ℕ = entries kind cv (open' c lv' rv) in
+        let one : before ≡ map (entry kind cv true) (c ∷ lv') = e ∙ rw (left_reached opp mark used c cv fit k.face n k.count) in
+        let two : after ≡ map (entry kind cv false) (cond (twice kind) (c ∷ rv) rv) =
+        e' ∙ rw (right_reached opp mark used c cv fit k.face (twice kind) m k.count' rest o (count ∙ rw extra) from) in
+        let all : n + 1 + rest ≡ length es = omega (arith, k.count, k.count') in
+        let left : drop rest (drop (n + 1) list) ≡ drop (length es) list =
+        drop-drop rest (n + 1) list ∙ ap (λ (j : ℕ). drop j list) all in
+        let last : before ++ (after ++ drop rest (drop (n + 1) list)) ≡ es ++ drop (length es) list =
+        rw (one, two, left) (sym (append_assoc (map (entry kind cv true) (c ∷ lv')) (map (entry kind cv false) (cond (twice kind) (c ∷ rv) rv)) (drop (length es) list))) in
         rw k.is
-        (listed_done r (length (visits (open' c lv' rv))) (entries kind cv (open' c lv' rv)) list last a
-        (omega (arith, k.count, k.count', length-append (c ∷ lv') rv))
-        (omega (arith, k.count, k.count'))
-        (omega (arith, k.count, k.count'))
-        all)
+        (listed_done (length (visits (open' c lv' rv))) es list (n + 1 + m) w (before ++ (after ++ drop rest (drop (n + 1) list)))
+        (omega (arith, k.count, k.count', length-append (c ∷ lv') rv)) (omega (arith, k.count, k.count')) (omega (arith, k.count, k.count')) last)
 
   -- 15, 16
   pub answer_short : (w : Counted) → w ≡ counted (walk opp mark used c) → leb (needed kind w) (length list) ≡ false
-      → (a : ℕ) → a ≡ too_short w → (r : Ring) → Refused r a → outcome r list ≡ walked kind cv (walk opp mark used c) list
-  answer_short Tangled h l a e r q = answer_tangled r (rw e at q) (was_tangled opp mark used c h)
-  answer_short (Closed n) h l a e r q = closed_short n (was_closed opp mark used c n h) r (rw e at q) (leb-false _ _ l)
-  answer_short (Open n m) h l a e r q =
-      open_short n m (cond (twice kind) 1 0) (was_open opp mark used c n m h) refl r (rw e at q) (leb-false _ _ l)
-
--- ---- the order of the answers 1, 9, 10 and the rest
+      → (a : ℕ) → a ≡ too_short w → refused_ring a list ≡ walked kind cv (walk opp mark used c) list
+  answer_short Tangled h l a e = rw e (answer_tangled (was_tangled opp mark used c h))
+  answer_short (Closed n) h l a e = rw e (closed_short n (was_closed opp mark used c n h) (leb-false _ _ l))
+  answer_short (Open n m) h l a e = rw e (open_short n m (cond (twice kind) 1 0) (was_open opp mark used c n m h) refl (leb-false _ _ l))

@@ -1,12 +1,13 @@
 -- What a loop that writes along one side of a walk keeps. Assumes nothing.
-use Prim.Native.Nat.{ℕ, suc, ◌+◌, ◌-◌, ◌<◌, ◌≤◌}
+use Prim.Native.Nat.{ℕ, zero, suc, ◌+◌, ◌-◌, ◌<◌, ◌≤◌}
 use mathlib.Core.Path.{◌≡◌, refl, ap, ◌∙◌}
-use mathlib.Core.List.{List, map}
+use mathlib.Core.List.{List, [], ◌++◌, map, append-nil}
 use mathlib.Core.Bool.{Bool, not}
 use native.Mathlib.Omega.{arith}
+use native.Mathlib.Nat.{zero-add}
 use native.Mathlib.Numerals.{add-one}
-use lib.ListN.{length, set, length-set}
-use lib.Seq.{sets}
+use lib.ListN.{length, set, length-set, length-map, drop, drop_of_length-le}
+use lib.Seq.{sets, sets-eq}
 use Rattle.corner.specs.Corner.{turn}
 use Rattle.table.specs.Slots.{opposite_at}
 use Rattle.traversal_lists.specs.Reached.{reached, Inside}
@@ -81,3 +82,23 @@ module _ (f : ℕ → ℕ) (left : Bool) (opp : List ℕ) (room : ℕ) (l₀ : L
             place = omega arith;
             inside = rw there ahead.2;
           }
+
+-- ---- a list that is written full
+
+pub reached_size : (left : Bool) (opp : List ℕ) (n o : ℕ) → length (reached left opp n o) ≡ n
+unfolding reached
+reached_size left opp zero o = refl
+reached_size left opp (suc n) o = ap suc (reached_size left opp n _)
+
+-- what is written from the front on
+pub sets_front : (l es : List ℕ) → length es ≤ length l → sets l 0 es ≡ es ++ drop (length es) l
+sets_front l es h = sets-eq es l 0 (rw zero-add h) ∙ rw zero-add
+
+pub writing_full : (f : ℕ → ℕ) (left : Bool) (opp : List ℕ) (room : ℕ) (l₀ : List ℕ) (o₀ : ℕ) (l : List ℕ) (i o : ℕ)
+    → Writing f left opp room l₀ l 0 (length l₀) o₀ i o → length l₀ ≤ i → l ≡ map f (reached left opp (length l₀) o₀)
+writing_full f left opp room l₀ o₀ l i o k h =
+    let es : List ℕ = map f (reached left opp (length l₀) o₀) in
+    let size : length es ≡ length l₀ = length-map (reached left opp (length l₀) o₀) f ∙ reached_size left opp (length l₀) o₀ in
+    let rest : drop (length es) l₀ ≡ [] = drop_of_length-le l₀ (omega arith) in
+    writing_stop f left opp room l₀ 0 (length l₀) o₀ l i o k (omega arith) ∙ sets_front l₀ es (omega arith)
+    ∙ ap (λ (x : List ℕ). es ++ x) rest ∙ append-nil es

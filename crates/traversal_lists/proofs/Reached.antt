@@ -5,13 +5,24 @@ use mathlib.Core.List.{List, [], ◌∷◌}
 use mathlib.Core.Bool.{Bool, true, false, not, cond}
 use native.Mathlib.Omega.{arith}
 use lib.ListN.{length}
-use Rattle.corner.specs.Corner.{turn}
+use Rattle.corner.specs.Corner.{absent, turn}
 use Rattle.corner.proofs.Turns.{turn_twice, turn_back, not_turn_twice}
 use Rattle.table.specs.Slots.{opposite_at}
 use Rattle.traversal_visits.specs.Walk.{face_live, Swing, border, tangle, to, swing, stop, more, closes, on_swing, side}
 use Rattle.traversal_lists.specs.Reached.{reached, Inside}
+use Rattle.traversal_visits.specs.declared.Corners.{Corners}
 use Rattle.traversal_visits.proofs.Steps.{Landed, swing_landed, face_used, face_turn}
 use Rattle.traversal_visits.specs.declared.End.TheVariants.{AtTangle, AtStart}
+
+-- the used corners have slots in three lists
+pub record Fit (cv co cm : List ℕ) (used : ℕ) : Type 0 where
+  pub below : length cv < absent
+  pub vertices : used ≤ length cv
+  pub opposites : used ≤ length co
+  pub marks : used ≤ length cm
+
+pub they_fit : (on : Corners) → Fit on.cv.now on.co.now on.cm.now on.used
+they_fit on = record { below = on.below; vertices = on.vertices; opposites = on.opposites; marks = on.marks }
 
 -- the corners of l are reached by crossing to o and on from there, all inside
 pub record Made (left : Bool) (opp : List ℕ) (room o : ℕ) (l : List ℕ) : Type 0 where

@@ -1,6 +1,6 @@
 -- A side of a walk by the corners that it crosses to, and by opposites alone: what it visits once it is known how many (proofs/Reached.antt).
-use Rattle.std.specs.Prelude.{ℕ, zero, suc, ◌<◌, ◌≤◌, Bool, not, List, [], ◌∷◌, length}
-use Rattle.corner.specs.Corner.{absent, turn}
+use Rattle.std.specs.Prelude.{ℕ, zero, suc, ◌<◌, Bool, not, List, [], ◌∷◌, length}
+use Rattle.corner.specs.Corner.{turn}
 use Rattle.table.specs.Slots.{opposite_at}
 
 -- the n corners that are reached by crossing to o and so on from there
@@ -13,10 +13,3 @@ unfoldable pub Inside : Bool → List ℕ → ℕ → ℕ → ℕ → Type 0
 Inside left opp room zero o = Unit {0}
 Inside left opp room (suc n) o =
     (o < room) × (turn (not left) o < length opp) × Inside left opp room n (opposite_at opp (turn (not left) o))
-
--- the used corners have slots in three lists
-pub record Fit (cv co cm : List ℕ) (used : ℕ) : Type 0 where
-  pub below : length cv < absent
-  pub vertices : used ≤ length cv
-  pub opposites : used ≤ length co
-  pub marks : used ≤ length cm

@@ -1,61 +1,53 @@
 -- A short closed ring that is written on the way, and what is put back where it is another. Assumes nothing.
 use Prim.Native.Nat.{ℕ, ◌+◌, ◌-◌, ◌/◌, ◌<◌, ◌≤◌}
+use Rattle.std.specs.Prelude.{min}
 use mathlib.Core.Path.{◌≡◌, refl, sym, ap, ◌∙◌}
-use mathlib.Core.Logic.{◌≢◌}
 use mathlib.Core.List.{List, ◌++◌, map}
-use mathlib.Core.Bool.{Bool, true, false}
+use mathlib.Core.Bool.{Bool, true, false, false≢true}
+use Rattle.std.specs.Prelude.{Option, Some, None, is_some}
 use native.Mathlib.Omega.{arith}
 use native.Mathlib.Nat.{zero-add}
-use native.Mathlib.Numerals.{add-one}
-use lib.ListN.{length, get_or, set, take, drop, take-append-drop}
-use lib.Seq.{sets, length-take-le, take_at, drop-set-lt, paste-suc}
+use lib.ListN.{length, length-map, set, take, drop, take-append-drop}
+use lib.Seq.{sets, drop-set-lt}
 use Rattle.corner.specs.Corner.{absent, next, previous, turn}
 use Rattle.corner.proofs.Turns.{next_previous, previous_next, previous_previous}
 use Rattle.table.specs.Slots.{opposite_at}
-use Rattle.traversal_visits.specs.Walk.{face_live, last_crossed, side, Walk, walk}
+use Rattle.traversal_visits.specs.Walk.{face_live, last_crossed, side, walk}
 use Rattle.traversal_lists.specs.Lists.{entry}
-use Rattle.traversal_lists.specs.Reached.{reached, Fit}
-use Rattle.traversal_lists.specs.Outcome.{RingOutcome, walked}
+use Rattle.traversal_lists.specs.Reached.{reached}
+use Rattle.traversal_lists.proofs.Reached.{they_fit}
+use Rattle.traversal_lists.specs.Outcome.{RingOutcome, walked_on}
 use Rattle.traversal_short.specs.Tried.{Short, Tried}
 use Rattle.traversal_visits.specs.Walk.{counted}
 use Rattle.traversal_visits.proofs.Steps.{face_same, turn_face, over_closed, over_more}
 use Rattle.traversal_visits.proofs.Counting.{Counting, counting_start, counting_stop, counting_more}
-use Rattle.traversal_lists.proofs.Loops.{Written, written_start, written_stop, written_more}
+use Rattle.traversal_lists.proofs.Loops.{Written, written_start, written_stop, written_more, reached_size, sets_front}
 use Rattle.traversal_visits.proofs.Counting.{counted_closed, was_closed}
 use Rattle.traversal_lists.proofs.Answers.{closed_done}
 use Rattle.traversal_lists.specs.declared.Kind.{Kind}
-use Rattle.traversal_lists.specs.declared.Ring.{Ring}
+use Rattle.traversal_visits.specs.declared.Corners.{Corners}
 use Rattle.traversal_visits.specs.declared.Counted.TheVariants.{Closed}
 use Rattle.traversal_visits.specs.declared.End.TheVariants.{AtStart}
 
 -- ---- the first 16 words
 
--- a turn of the copying loop
-pub copied : (from to₀ to : List ℕ) (i v : ℕ) → to ≡ take i from ++ drop i to₀ → i < length from → i < length to₀ → v ≡ get_or from i 0
-    → set to i v ≡ take (i + 1) from ++ drop (i + 1) to₀
-copied from to₀ to i v e h k at = rw (e, at, add-one) (rw (zero-add, zero-add) at (paste-suc to₀ 0 from i 0 (rw zero-add k) h))
+module _ (kind : Kind) (on : Corners) (c : ℕ) where
+  pub tried_none : (l : List ℕ) → Tried kind on c None l l
+  tried_none l = record { none = refl; ring = tt }
 
-module _ (kind : Kind) (cv : List ℕ) (w : Walk) where
-  pub tried_none : (l : List ℕ) → Tried kind cv w 0 l l
-  tried_none l = record { none = λ z. refl; ring = λ ne. absurd (ne refl) }
-
-  module _ (n : ℕ) (l now : List ℕ) (s : Short kind cv w n l now) where
-    pub tried_done : n ≢ 0 → Tried kind cv w n l now
-    tried_done ne = record { none = λ z. absurd (ne z); ring = s.ring }
+  module _ (l now : List ℕ) where
+    pub tried_done : (n : ℕ) → Short kind on c (Some n) l now → Tried kind on c (Some n) l now
+    tried_done n s = record { none = tt; ring = s.ring }
 
     -- what was held is put back over what was written
-    pub tried_back : 16 ≤ length l → (rest held : List ℕ) → held ≡ take 16 l ++ rest → (last : List ℕ) → last ≡ take 16 held ++ drop 16 now
-        → Tried kind cv w 0 l last
-    tried_back h rest held e last p =
-        record {
-          none = λ z. p ∙ ap (λ (x : List ℕ). x ++ drop 16 now) (ap (take 16) e ∙ take_at (take 16 l) rest 16 (length-take-le 16 l h))
-              ∙ ap (λ (x : List ℕ). take 16 l ++ x) s.past ∙ take-append-drop 16 l;
-          ring = λ ne. absurd (ne refl);
-        }
+    pub tried_back : (n : Option ℕ) → is_some n ≡ false → Short kind on c n l now → (held last : List ℕ) → held ≡ take 16 l → last ≡ held ++ drop 16 now
+        → Tried kind on c n l last
+    tried_back None h s held last e p = record { none = p ∙ rw e (ap (λ (x : List ℕ). take 16 l ++ x) s.past ∙ take-append-drop 16 l); ring = tt }
+    tried_back (Some n) h s held last e p = absurd (false≢true (sym h))
 
-  -- then the other way answers
-  pub tried_else : (n : ℕ) (l now : List ℕ) → Tried kind cv w n l now → n ≡ 0 → (x : RingOutcome) → x ≡ walked kind cv w now → x ≡ walked kind cv w l
-  tried_else n l now t z x e = e ∙ ap (walked kind cv w) (t.none z)
+    -- then the other way answers
+    pub tried_else : Tried kind on c None l now → (x : RingOutcome) → x ≡ walked_on kind on c now → x ≡ walked_on kind on c l
+    tried_else t x e = e ∙ ap (walked_on kind on c) t.none
 
 -- ---- the walk
 
@@ -113,49 +105,55 @@ home : (last : ℕ) → last ≡ last_crossed true (next last)
 unfolding last_crossed
 home last = sym (previous_next last)
 
-module _ (kind : Kind) (cv co cm : List ℕ) (used last : ℕ) (l₀ : List ℕ) where
+module _ (kind : Kind) (on : Corners) (last : ℕ) (l₀ : List ℕ) where
   pub record Shortly (l : List ℕ) (i o : ℕ) : Type 0 where
-    pub way : Onway co cm used (next last) last i o
-    pub done : Written (entry kind cv true) true co l₀ l 0 last i o
+    pub way : Onway on.co.now on.cm.now on.used (next last) last i o
+    pub done : Written (entry kind on.cv.now true) true on.co.now l₀ l 0 last i o
     pub past : drop 16 l ≡ drop 16 l₀
 
   pub short_start : (o : ℕ) → o ≡ last → Shortly l₀ 0 o
-  short_start o e = record { way = at_first refl e; done = rw e (written_start (entry kind cv true) true co l₀ 0 last); past = refl }
+  short_start o e = record { way = at_first refl e; done = rw e (written_start (entry kind on.cv.now true) true on.co.now l₀ 0 last); past = refl }
 
   module _ (l : List ℕ) (i o : ℕ) (k : Shortly l i o) where
-    pub short_none : (w : Walk) → Short kind cv w 0 l₀ l
-    short_none w = record { past = k.past; ring = λ ne. absurd (ne refl) }
-
     -- a turn of the loop: the face that is crossed to is live, and its entry is written
-    module _ (fit : Fit cv co cm used) (t : Bool) (is : t ≡ face_live cm used o) (on : t ≡ true) (few : i < used) (short : i < 16)
-        (v : ℕ) (at-v : v ≡ entry kind cv true (turn true o)) (l' : List ℕ) (at-l : l' ≡ set l i v)
-        (via : ℕ) (at-via : via ≡ turn false o) (o' : ℕ) (at-o : o' ≡ opposite_at co via) where
-      low : used ≤ absent
-      low = omega (arith, fit.below, fit.vertices)
+    module _ (t : Bool) (is : t ≡ face_live on.cm.now on.used o) (yes : t ≡ true) (few : i < min on.used 16)
+        (v : ℕ) (at-v : v ≡ entry kind on.cv.now true (turn true o)) (l' : List ℕ) (at-l : l' ≡ set l i v)
+        (via : ℕ) (at-via : via ≡ turn false o) (o' : ℕ) (at-o : o' ≡ opposite_at on.co.now via) where
+      low : on.used ≤ absent
+      low = omega (arith, on.below, on.vertices)
 
-      done' : Written (entry kind cv true) true co l₀ l' 0 last (i + 1) o'
-      done' = written_more (entry kind cv true) true co l₀ 0 last l i o k.done v at-v l' at-l via at-via o' at-o
+      fewer : i < on.used
+      fewer = omega arith
+
+      done' : Written (entry kind on.cv.now true) true on.co.now l₀ l' 0 last (i + 1) o'
+      done' = written_more (entry kind on.cv.now true) true on.co.now l₀ 0 last l i o k.done v at-v l' at-l via at-via o' at-o
 
       past' : drop 16 l' ≡ drop 16 l₀
-      past' = ap (drop 16) at-l ∙ drop-set-lt 16 l i v short ∙ k.past
+      past' = ap (drop 16) at-l ∙ drop-set-lt 16 l i v (omega arith) ∙ k.past
 
       pub short_more : (o' ≡ last → ⊥) → Shortly l' (i + 1) o'
       short_more ne =
           record {
-            way = onway_more co cm used (next last) low last (home last) i o k.way t is on few via at-via o' at-o ne;
+            way = onway_more on.co.now on.cm.now on.used (next last) low last (home last) i o k.way t is yes fewer via at-via o' at-o ne;
             done = done';
             past = past';
           }
 
-      pub short_closed : (c : ℕ) → last ≡ previous c → 16 ≤ length l₀ → o' ≡ last → Short kind cv (walk co cm used c) (i + 1) l₀ l'
+      pub short_closed : (c : ℕ) → last ≡ previous c → 16 ≤ length l₀ → o' ≡ last → Short kind on c (Some (i + 1)) l₀ l'
       short_closed c is_c room e =
           let back : next last ≡ c = ap next is_c ∙ next_previous c in
-          let closed : Closed i ≡ counted (walk co cm used c) =
-          rw back at (onway_closed co cm used (next last) low last (home last) i o k.way t is on few via at-via o' at-o e) in
-          let all : l' ≡ sets l₀ 0 (map (entry kind cv true) (reached true co (i + 1) (previous c))) =
-          rw is_c at (written_stop (entry kind cv true) true co l₀ 0 last l' (i + 1) o' done' (i + 1) (zero-add (i + 1))) in
-          let r : Ring = record { answer = 0; visited = i + 1; written = i + 1 } in
+          let closed : Closed i ≡ counted (walk on.co.now on.cm.now on.used c) =
+          rw back at (onway_closed on.co.now on.cm.now on.used (next last) low last (home last) i o k.way t is yes fewer via at-via o' at-o e) in
+          let es : List ℕ = map (entry kind on.cv.now true) (reached true on.co.now (i + 1) (previous c)) in
+          let all : l' ≡ sets l₀ 0 es =
+          rw is_c at (written_stop (entry kind on.cv.now true) true on.co.now l₀ 0 last l' (i + 1) o' done' (i + 1) (zero-add (i + 1))) in
+          let size : length es ≡ i + 1 =
+          length-map (reached true on.co.now (i + 1) (previous c)) (entry kind on.cv.now true) ∙ reached_size true on.co.now (i + 1) (previous c) in
+          let front : l' ≡ es ++ drop (i + 1) l₀ =
+          all ∙ sets_front l₀ es (omega arith) ∙ ap (λ (n : ℕ). es ++ drop n l₀) size in
           record {
             past = past';
-            ring = λ ne. closed_done kind cv co cm used c l₀ i (was_closed co cm used c i closed) r fit l' refl refl refl (omega arith) all;
+            ring =
+                rw front
+                (closed_done kind on.cv.now on.co.now on.cm.now on.used c l₀ i (was_closed on.co.now on.cm.now on.used c i closed) (they_fit on) (omega arith) es refl);
           }

@@ -1,19 +1,15 @@
 -- What is left of a walk that is written on the way.
-use Rattle.std.specs.Prelude.{ℕ, List, ◌≡◌, ◌≢◌, drop}
-use Rattle.traversal_visits.specs.Walk.{Walk}
-use Rattle.traversal_lists.specs.Outcome.{RingOutcome, walked}
+use Rattle.std.specs.Prelude.{ℕ, List, ◌≡◌, drop, Option, IfSome, IfNone}
+use Rattle.traversal_visits.specs.declared.Corners.{Corners}
+use Rattle.traversal_lists.specs.Outcome.{done_ring, walked_on}
 use Rattle.traversal_lists.specs.declared.Kind.{Kind}
 
--- a call that wrote n entries for as many visits
-abbrev pub full : ℕ → List ℕ → RingOutcome
-full n list = record { answer = 0; visited = n; written = n; list = list }
-
--- what is written on the way: nothing past the first 16 words, and all of a ring of n corners where n is not 0
-pub record Short (kind : Kind) (cv : List ℕ) (w : Walk) (n : ℕ) (before after : List ℕ) : Type 0 where
+-- what is written on the way: nothing past the first 16 words, and all of a ring where it is known how many corners it has
+pub record Short (kind : Kind) (on : Corners) (c : ℕ) (n : Option ℕ) (before after : List ℕ) : Type 0 where
   pub past : drop 16 after ≡ drop 16 before
-  pub ring : n ≢ 0 → full n after ≡ walked kind cv w before
+  pub ring : IfSome n (λ n. done_ring n n after ≡ walked_on kind on c before)
 
--- the same once the first 16 words are put back where n is 0
-pub record Tried (kind : Kind) (cv : List ℕ) (w : Walk) (n : ℕ) (before after : List ℕ) : Type 0 where
-  pub none : n ≡ 0 → after ≡ before
-  pub ring : n ≢ 0 → full n after ≡ walked kind cv w before
+-- the same once the first 16 words are put back where there is no such ring
+pub record Tried (kind : Kind) (on : Corners) (c : ℕ) (n : Option ℕ) (before after : List ℕ) : Type 0 where
+  pub none : IfNone n (after ≡ before)
+  pub ring : IfSome n (λ n. done_ring n n after ≡ walked_on kind on c before)

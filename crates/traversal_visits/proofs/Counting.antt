@@ -1,11 +1,12 @@
 -- What a loop that counts one side of a walk keeps: it has done a part of `whole`, and `here` is what is left; and the whole walk by what its
 -- two sides were found to be. Assumes nothing.
-use Prim.Native.Nat.{ℕ, ◌+◌, ◌-◌, ◌≤◌}
+use Prim.Native.Nat.{ℕ, ◌+◌, ◌-◌, ◌<◌, ◌≤◌}
 use mathlib.Core.Path.{◌≡◌, refl, sym, ap, ◌∙◌}
 use mathlib.Core.List.{List, ◌∷◌}
-use mathlib.Core.Bool.{Bool, true, false}
+use mathlib.Core.Bool.{Bool, true, false, not}
 use native.Mathlib.Omega.{arith}
 use lib.ListN.{length, length-append}
+use Rattle.corner.specs.Corner.{turn}
 use Rattle.traversal_visits.specs.Walk.{Side, stop, more, face_live, side, tangled, closed, open', left_of, right_of, after_left, after_right, walk, visits, counted}
 use Rattle.traversal_visits.proofs.Steps.{side_bound, face_used}
 use Rattle.traversal_visits.specs.declared.Counted.TheVariants.{Tangled, Closed, Open}
@@ -37,10 +38,49 @@ module _ (whole here : Side) (room rest : ℕ) (k : Counting whole here room res
       let l : length here.visits ≡ length there.visits + 1 = ap (λ (s : Side). length s.visits) h ∙ omega arith in
       record { le = omega (arith, k.le); count = omega (arith, k.count, k.le); ends = k.ends ∙ ap (λ (s : Side). s.end) h }
 
+-- what is left of a side of a walk that crosses from the slot `via` next
+abbrev pub from_slot : Bool → List ℕ → List ℕ → (used c₀ via room : ℕ) → Side
+from_slot left opp mark used c₀ via room = side left opp mark used c₀ room (turn (not left) via)
+
+-- the same before the crossing that would make visit n + 1, where at most room + 1 crossings are looked at; or all have been made, and the
+-- side would visit one corner more than it has room for
+pub record Crossing (whole : Side) (here : ℕ → Side) (most n : ℕ) : Type 0 where
+  pub on : n < most → Counting whole (here (most - 1 - n)) (most - 1) (most - 1 - n)
+  pub out : n ≡ most → (most - 1 ≡ length whole.visits) × (AtTangle ≡ whole.end)
+
+pub crossing_start : (whole : Side) (here : ℕ → Side) (most : ℕ) → 0 < most → here (most - 1) ≡ whole → Crossing whole here most 0
+crossing_start whole here most h e =
+    let all : most - 1 - 0 ≡ most - 1 = omega arith in
+    record { on = λ l. rw all (counting_start whole _ (most - 1) e); out = λ z. absurd (omega arith) }
+
+module _ (whole : Side) (here : ℕ → Side) (most n : ℕ) (k : Crossing whole here most n) (h : n < most) where
+  pub crossing_stop : (e : End) → here (most - 1 - n) ≡ stop e → (n ≡ length whole.visits) × (e ≡ whole.end)
+  crossing_stop e s =
+      let found = counting_stop whole _ _ _ (k.on h) e s in
+      let all : most - 1 - (most - 1 - n) ≡ n = omega arith in
+      (rw all at found.0, found.1)
+
+  pub crossing_more : (there : ℕ → Side) (d : ℕ) → ((room : ℕ) → (room ≡ 0 → ⊥) → here room ≡ more d (there (room - 1)))
+      → ((room : ℕ) → room ≡ 0 → here room ≡ stop AtTangle) → Crossing whole there most (n + 1)
+  crossing_more there d goes ends =
+      let less : most - 1 - (n + 1) ≡ most - 1 - n - 1 = omega arith in
+      record {
+        on = λ l.
+            let some : most - 1 - n ≡ 0 → ⊥ = λ z. absurd (omega arith) in
+            rw less (counting_more whole _ _ _ (k.on h) (there (most - 1 - n - 1)) d (goes (most - 1 - n) some) some);
+        out = λ l. counting_out whole _ _ _ (k.on h) AtTangle (ends (most - 1 - n) (omega arith)) (omega arith);
+      }
+
 no_way : {A : Type 0} → ◌≡◌ {A = ℕ} 0 1 → A
 no_way z = absurd (omega arith)
 
 -- ---- the walk, by its sides
+
+no_border : (c : ℕ) (l : List ℕ) (r : Side) (f : End) → (f ≡ AtBorder → ⊥) → Tangled ≡ counted (after_right c l r f)
+unfolding after_right
+no_border c l r AtBorder k = absurd (k refl)
+no_border c l r AtTangle k = refl
+no_border c l r AtStart k = refl
 
 module _ (opp mark : List ℕ) (used c : ℕ) where
   pub counted_dead : (t : Bool) → t ≡ face_live mark used c → t ≡ false → Tangled ≡ counted (walk opp mark used c)
@@ -59,13 +99,9 @@ module _ (opp mark : List ℕ) (used c : ℕ) where
 
     module _ (h : e ≡ AtBorder) (m : ℕ) (f : End)
         (found' : (m ≡ length (side false opp mark used c (used - 1 - n) c).visits) × (f ≡ (side false opp mark used c (used - 1 - n) c).end)) where
-      pub counted_tangle' : f ≡ AtTangle → Tangled ≡ counted (walk opp mark used c)
-      unfolding walk left_of right_of after_left after_right
-      counted_tangle' k = rw (← is, on, ← found.1, h, ← found.0, ← found'.1, k)
-
-      pub counted_start' : f ≡ AtStart → Tangled ≡ counted (walk opp mark used c)
-      unfolding walk left_of right_of after_left after_right
-      counted_start' k = rw (← is, on, ← found.1, h, ← found.0, ← found'.1, k)
+      pub counted_other : (f ≡ AtBorder → ⊥) → Tangled ≡ counted (walk opp mark used c)
+      unfolding walk left_of right_of after_left
+      counted_other k = rw (← is, on, ← found.1, h, ← found.0, ← found'.1) (no_border c _ _ f k)
 
       pub counted_open : f ≡ AtBorder → Open n m ≡ counted (walk opp mark used c)
       unfolding walk left_of right_of after_left after_right

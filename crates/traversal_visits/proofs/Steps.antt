@@ -13,7 +13,7 @@ use lib.Dec.{eqb}
 use Rattle.corner.specs.Corner.{absent, next, previous, turn}
 use Rattle.corner.proofs.Turns.{Third, first, second, last, third, next_first, next_second, next_last, previous_first, previous_second, previous_last}
 use Rattle.corner.proofs.Turns.{next_previous, previous_next, next_face, turn_back, not_turn_twice}
-use Rattle.table.specs.Slots.{opposite_at, mark_at}
+use Rattle.table.specs.Slots.{opposite_at}
 use Rattle.table.specs.Table.{live}
 use Rattle.table.proofs.Lives.{live_true, not_live}
 use Rattle.traversal_visits.specs.Walk.{unmarked, face_live, last_crossed, Swing, border, tangle, to, swing, Side, closes, stop, more, on_swing, side}
@@ -21,19 +21,6 @@ use Rattle.traversal_visits.specs.declared.End.{End}
 use Rattle.traversal_visits.specs.declared.End.TheVariants.{AtBorder, AtTangle, AtStart}
 
 -- ---- a live face
-
-module _ (mark : List ℕ) (b x y z : ℕ) (is : x ≡ mark_at mark b) (is' : y ≡ mark_at mark (b + 1)) (is'' : z ≡ mark_at mark (b + 2)) where
-  pub unmarked_first : (x ≡ 0 → ⊥) → false ≡ unmarked mark b
-  unfolding unmarked
-  unmarked_first h = rw (← is, ne_eqb x 0 h)
-
-  pub unmarked_second : x ≡ 0 → (y ≡ 0 → ⊥) → false ≡ unmarked mark b
-  unfolding unmarked
-  unmarked_second h k = rw (← is, eq-eqb x 0 h, ← is', ne_eqb y 0 k)
-
-  pub unmarked_third : x ≡ 0 → y ≡ 0 → (t : Bool) → t ≡ eqb z 0 → t ≡ unmarked mark b
-  unfolding unmarked
-  unmarked_third h k t e = rw (← is, eq-eqb x 0 h, ← is', eq-eqb y 0 k, ← is'') e
 
 module _ (mark : List ℕ) (used c : ℕ) where
   -- whichever corner of its face c is, the same three are asked for

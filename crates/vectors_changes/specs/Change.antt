@@ -1,11 +1,10 @@
 -- Records 1, 2 and 3: what each leaves of the current table.
-use Rattle.std.specs.Prelude.{ℕ, ◌+◌, Bool, ◌&&◌, cond, List, [], eqb, ltb, Float, length, get_or, set}
+use Rattle.std.specs.Prelude.{ℕ, ◌+◌, Bool, ◌&&◌, cond, List, eqb, ltb, Float, length, get_or, set}
 use Rattle.std.specs.Float.Ieee.{of_bits}
 use Rattle.std.specs.Float.{binary32}
 use Rattle.table.specs.Slots.{blanked}
-use Rattle.table.specs.Table.{Table, table}
+use Rattle.table.specs.Table.{Table, table, with_counts}
 use Rattle.words.specs.Same.{one_unless}
-use Rattle.words.specs.Words.{tabled, number_no}
 use Rattle.vectors_changes.specs.declared.Rooms.{Rooms}
 
 -- the table that a record leaves, and 1 where it came out otherwise than listed
@@ -31,8 +30,9 @@ room_as w i l = eqb (length l) (get_or w i 0)
 unfoldable pub filled_as : List ℕ → ℕ → List ℕ → List ℕ
 filled_as w i l = blanked (get_or w (i + 1) 0) l
 
+-- a number is listed as its bits
 unfoldable pub points_as : List ℕ → ℕ → List Float → List Float
-points_as w i l = tabled (length l) (number_no [] (get_or w (i + 1) 0))
+points_as w i l = blanked (of_bits binary32 (get_or w (i + 1) 0)) l
 
 unfoldable pub rooms_right : List ℕ → (cv co cm vc vm vp : Bool) → Bool
 rooms_right w cv co cm vc vm vp = (((cv && co) && (cm && vc)) && (vm && vp)) && eqb (length w) 12
@@ -47,6 +47,9 @@ rooms_left cv co cm vc vm vp w =
 abbrev pub counts_right : List ℕ → Bool
 counts_right w = eqb (length w) 2
 
+abbrev pub counts_left : Table → List ℕ → Played
+counts_left t w = played (one_unless (counts_right w)) (with_counts t (get_or w 0 0) (get_or w 1 0))
+
 -- "3 put: part, index, value: writes one entry of a part": what it makes of part k
 unfoldable pub put_as : List ℕ → ℕ → List ℕ → List ℕ
 put_as w k l = cond (eqb (get_or w 0 0) k) (set l (get_or w 1 0) (get_or w 2 0)) l
@@ -57,10 +60,9 @@ put_number_as w k l = cond (eqb (get_or w 0 0) k) (set l (get_or w 1 0) (of_bits
 unfoldable pub put_right : List ℕ → Bool
 put_right w = ltb (get_or w 0 0) 6 && eqb (length w) 3
 
-unfoldable pub put_left : Table → List ℕ → Played
-put_left t w =
-    played (one_unless (put_right w))
-    (table
+unfoldable pub put_made : Table → List ℕ → Table
+put_made t w =
+    table
     (put_as w 0 t.corner_vertex)
     (put_as w 1 t.corner_opposite)
     (put_as w 2 t.corner_mark)
@@ -68,4 +70,7 @@ put_left t w =
     (put_as w 4 t.vertex_mark)
     (put_number_as w 5 t.vertex_point)
     t.vertices
-    t.corners)
+    t.corners
+
+abbrev pub put_left : Table → List ℕ → Played
+put_left t w = played (one_unless (put_right w)) (put_made t w)

@@ -1,30 +1,18 @@
 // The records of the stored list that change the table themselves: new rooms, the counts, one entry of a part.
 #![tactic(auto)]
 
-ghost use Rattle.std.specs.Prelude.{◌≡◌, get_or};
-ghost use Rattle.table.specs.Lent.{before, after};
+ghost use Rattle.std.specs.Prelude.{◌≡◌};
+ghost use Rattle.table.specs.Parts.{lent, SameParts};
 ghost use Rattle.words.specs.Same.{one_unless};
-ghost use Rattle.vectors_changes.specs.Change.{
-  played,
-  rooms_after,
-  room_as,
-  filled_as,
-  points_as,
-  rooms_right,
-  rooms_left,
-  counts_right,
-  put_as,
-  put_number_as,
-  put_right,
-  put_left,
-};
+ghost use Rattle.vectors_list.specs.Op.{number_of};
+ghost use Rattle.vectors_changes.specs.Change.{played, rooms_after, room_as, rooms_right, rooms_left, counts_left, put_made, put_left};
 
-use flag::both;
-use table::{Counts, at, fill, put, put_float};
-use words::{one_unless, put_numbers};
+use table::{Lent, Seen, at, put};
+use vectors_list::Op;
+use vertex::float_of;
 
-// The lengths of the six parts.
-#[derive(Clone, Copy)]
+// The lengths of the six parts: at first none has an entry.
+#[derive(Clone, Copy, Default)]
 pub struct Rooms {
     pub cv: u32,
     pub co: u32,
@@ -34,150 +22,100 @@ pub struct Rooms {
     pub vp: u32,
 }
 
-// What a record leaves: the counts, and 1 where it is wrong.
-#[derive(Clone, Copy)]
-pub struct Left {
-    pub counts: Counts,
-    pub wrong: u32,
-}
-
 // ---- 1 rooms
 
 // Record 1 gives new lengths; any other keeps them.
-pub fn rooms_after(op: u32, w: &[u32], old: Rooms) -> Rooms
-    ensures { result ≡ rooms_after op w.now old }
+#[tactic(auto, unfolding(crate::specs::Change::rooms_after))]
+pub fn rooms_after(op: Op, w: &[u32], old: Rooms) -> Rooms
+    ensures { result ≡ rooms_after (number_of op) w.now old }
 {
-    if op == 1 {
-        return Rooms {
+    if op == Op::Rooms {
+        Rooms {
             cv: at(w, 0, 0),
             co: at(w, 2, 0),
             cm: at(w, 4, 0),
             vc: at(w, 6, 0),
             vm: at(w, 8, 0),
             vp: at(w, 10, 0),
-        };
+        }
+    } else {
+        old
     }
-    old
 }
 
-// The pair from word i on: the fill everywhere, and whether the part has the listed length.
-fn fill_part(w: &[u32], i: u32, l: &mut [u32]) -> bool
-    ensures { (result ≡ room_as w.now i l.old) × (l.new ≡ filled_as w.now i l.old) }
+// Whether a part has the length that word i lists.
+#[tactic(auto, unfolding(crate::specs::Change::room_as))]
+fn is_sized<T: Copy>(w: &[u32], i: usize, part: &[T]) -> bool
+    ensures { result ≡ room_as w.now i part.now }
 {
-    let k = i as usize;
-    let same = l.len() == at(w, k, 0) as usize;
-    fill(l, at(w, k + 1, 0));
-    same
+    part.len() == at(w, i, 0) as usize
 }
 
-fn fill_points(w: &[u32], i: u32, l: &mut [f32]) -> bool
-    ensures { (result ≡ room_as w.now i l.old) × (l.new ≡ points_as w.now i l.old) }
+#[tactic(auto, unfolding(crate::specs::Change::rooms_right))]
+fn rooms_right(t: &Seen, w: &[u32]) -> bool
+    ensures { result ≡ rooms_right w.now (room_as w.now 0 t.now.cv.now) (room_as w.now 2 t.now.co.now) (room_as w.now 4 t.now.cm.now)
+        (room_as w.now 6 t.now.vc.now) (room_as w.now 8 t.now.vm.now) (room_as w.now 10 t.now.vp.now) }
 {
-    let k = i as usize;
-    let same = l.len() == at(w, k, 0) as usize;
-    let none = [0u32; 0];
-    put_numbers(&none, at(w, k + 1, 0), l);
-    same
+    ((is_sized(w, 0, t.cv) && is_sized(w, 2, t.co))
+        && (is_sized(w, 4, t.cm) && is_sized(w, 6, t.vc)))
+        && (is_sized(w, 8, t.vm) && is_sized(w, 10, t.vp))
+        && w.len() == 12
 }
 
-fn rooms_right(w: &[u32], cv: bool, co: bool, cm: bool, vc: bool, vm: bool, vp: bool) -> bool
-    ensures { result ≡ rooms_right w.now cv co cm vc vm vp }
+#[tactic(auto, unfolding(crate::specs::Change::rooms_left, crate::specs::Change::filled_as, crate::specs::Change::points_as))]
+pub fn replay_rooms(t: &mut Lent, w: &[u32]) -> bool
+    ensures parts { SameParts t.old t.new }
+    ensures played { played (one_unless result) (lent t.new)
+        ≡ rooms_left t.old.cv.now t.old.co.now t.old.cm.now t.old.vc.now t.old.vm.now t.old.vp.now w.now }
 {
-    both(
-        both(both(both(cv, co), both(cm, vc)), both(vm, vp)),
-        w.len() == 12,
-    )
-}
-
-pub fn replay_rooms(
-    cv: &mut [u32],
-    co: &mut [u32],
-    cm: &mut [u32],
-    vc: &mut [u32],
-    vm: &mut [u32],
-    vp: &mut [f32],
-    w: &[u32],
-) -> Left
-    ensures { played result.wrong (after cv co cm vc vm vp result.counts)
-        ≡ rooms_left cv.old co.old cm.old vc.old vm.old vp.old
-        w.now }
-{
-    let a = fill_part(w, 0, cv);
-    let b = fill_part(w, 2, co);
-    let c = fill_part(w, 4, cm);
-    let d = fill_part(w, 6, vc);
-    let e = fill_part(w, 8, vm);
-    let f = fill_points(w, 10, vp);
-    Left {
-        counts: Counts {
-            vertices: 0,
-            corners: 0,
-        },
-        wrong: one_unless(rooms_right(w, a, b, c, d, e, f)),
-    }
+    let right = rooms_right(&t.seen(), w);
+    t.cv.fill(at(w, 1, 0));
+    t.co.fill(at(w, 3, 0));
+    t.cm.fill(at(w, 5, 0));
+    t.vc.fill(at(w, 7, 0));
+    t.vm.fill(at(w, 9, 0));
+    t.vp.fill(float_of(at(w, 11, 0)));
+    t.vertices = 0;
+    t.corners = 0;
+    right
 }
 
 // ---- 2 counts
 
-pub fn replay_counts(w: &[u32]) -> Left
-    ensures { (result.wrong ≡ one_unless (counts_right w.now)) × (result.counts.vertices ≡ get_or w.now 0 0)
-        × (result.counts.corners ≡ get_or w.now 1 0) }
+pub fn replay_counts(t: &mut Lent, w: &[u32]) -> bool
+    ensures parts { SameParts t.old t.new }
+    ensures played { played (one_unless result) (lent t.new) ≡ counts_left (lent t.old) w.now }
 {
-    Left {
-        counts: Counts {
-            vertices: at(w, 0, 0),
-            corners: at(w, 1, 0),
-        },
-        wrong: one_unless(w.len() == 2),
-    }
+    t.vertices = at(w, 0, 0);
+    t.corners = at(w, 1, 0);
+    w.len() == 2
 }
 
 // ---- 3 put
 
-// What the record makes of part k.
-fn put_in(w: &[u32], k: u32, l: &mut [u32])
-    ensures { l.new ≡ put_as w.now k l.old }
+#[tactic(auto, unfolding(crate::specs::Change::put_made, crate::specs::Change::put_as, crate::specs::Change::put_number_as))]
+fn put_entry(t: &mut Lent, w: &[u32])
+    ensures parts { SameParts t.old t.new }
+    ensures made { lent t.new ≡ put_made (lent t.old) w.now }
 {
-    if at(w, 0, 0) == k {
-        put(l, at(w, 1, 0) as usize, at(w, 2, 0));
+    let i = at(w, 1, 0) as usize;
+    let v = at(w, 2, 0);
+    match at(w, 0, 0) {
+        0 => put(t.cv, i, v),
+        1 => put(t.co, i, v),
+        2 => put(t.cm, i, v),
+        3 => put(t.vc, i, v),
+        4 => put(t.vm, i, v),
+        5 => put(t.vp, i, float_of(v)),
+        _ => {}
     }
 }
 
-fn put_number_in(w: &[u32], k: u32, l: &mut [f32])
-    ensures { l.new ≡ put_number_as w.now k l.old }
+#[tactic(auto, unfolding(crate::specs::Change::put_right))]
+pub fn replay_put(t: &mut Lent, w: &[u32]) -> bool
+    ensures parts { SameParts t.old t.new }
+    ensures played { played (one_unless result) (lent t.new) ≡ put_left (lent t.old) w.now }
 {
-    if at(w, 0, 0) == k {
-        put_float(l, at(w, 1, 0) as usize, vertex::float_of(at(w, 2, 0)));
-    }
-}
-
-fn put_right(w: &[u32]) -> bool
-    ensures { result ≡ put_right w.now }
-{
-    both(at(w, 0, 0) < 6, w.len() == 3)
-}
-
-pub fn replay_put(
-    cv: &mut [u32],
-    co: &mut [u32],
-    cm: &mut [u32],
-    vc: &mut [u32],
-    vm: &mut [u32],
-    vp: &mut [f32],
-    counts: Counts,
-    w: &[u32],
-) -> Left
-    ensures { played result.wrong (after cv co cm vc vm vp result.counts)
-        ≡ put_left (before cv co cm vc vm vp counts) w.now }
-{
-    put_in(w, 0, cv);
-    put_in(w, 1, co);
-    put_in(w, 2, cm);
-    put_in(w, 3, vc);
-    put_in(w, 4, vm);
-    put_number_in(w, 5, vp);
-    Left {
-        counts: counts,
-        wrong: one_unless(put_right(w)),
-    }
+    put_entry(t, w);
+    at(w, 0, 0) < 6 && w.len() == 3
 }

@@ -1,3 +1,2 @@
--- The laws behind the kinds and the records.
-pub mod Asked
-pub mod Looks
+-- The law behind the kinds of a move.
+pub mod Moves

@@ -1,7 +1,7 @@
 -- Whether what a call handed back is what its record lists.
 use Rattle.std.specs.Prelude.{ℕ, ◌+◌, Bool, ◌&&◌, cond, List, eqb, get_or}
-use Rattle.checker.specs.declared.Verdict.{Verdict}
-use Rattle.walker.specs.declared.Moved.{Moved}
+use Rattle.checker.specs.Verdict.{Verdict}
+use Rattle.walker.specs.Walker.{Moved}
 
 unfoldable pub word_is : List ℕ → ℕ → ℕ → Bool
 word_is w k v = eqb (get_or w k 0) v

@@ -5,8 +5,9 @@ use Rattle.traversal_lists.specs.Outcome.{RingOutcome}
 use Rattle.traversal.specs.Ring.{ring_of}
 use Rattle.traversal_lists.specs.declared.Kind.{Kind}
 use Rattle.traversal_lists.specs.declared.Kind.TheVariants.{Corners, Vertices, Faces, Edges, BoundingEdges}
-use Rattle.walker.specs.declared.Moved.{Moved}
-use Rattle.walker.specs.Walker.{to_next, to_previous, to_opposite, swung_left, swung_right}
+use Rattle.walker.specs.declared.Move.{Move}
+use Rattle.walker.specs.declared.Move.TheVariants.{Next, Previous, Opposite, SwingLeft, SwingRight}
+use Rattle.walker.specs.Walker.{Moved, to_next, to_previous, to_opposite, swung_left, swung_right}
 use Rattle.checker.specs.Order.{verdict_of}
 use Rattle.words.specs.Same.{holds_of, hold_numbers_of}
 use Rattle.vectors_looks.specs.Judge.{word_is, checked_as, ringed_as, moved_as}
@@ -30,6 +31,9 @@ unfoldable pub ring_right : Table → ℕ → List ℕ → Bool
 ring_right t n w = ring_as w (ring_of (ring_kind_of (get_or w 0 0)) (get_or w 1 0) t (replicate n (get_or w 6 0)))
 
 -- "8 move: kind (0 next, 1 previous, 2 opposite, 3 swing left, 4 swing right), corner, answer, moved (0/1), corner after"
+unfoldable pub move_kind_of : ℕ → Move
+move_kind_of k = cond (eqb k 0) Next (cond (eqb k 1) Previous (cond (eqb k 2) Opposite (cond (eqb k 3) SwingLeft SwingRight)))
+
 unfoldable pub move_of : ℕ → Table → ℕ → Moved
 move_of k t c =
     cond (eqb k 0) (to_next t c)

@@ -2,17 +2,17 @@
 // it lists.
 #![tactic(auto)]
 
-ghost use Rattle.std.specs.Prelude.{◌≡◌, length};
-ghost use Rattle.table.specs.Lent.{counts_of, seen};
+ghost use Rattle.std.specs.Prelude.{◌≡◌, List, ℕ, length};
+ghost use Rattle.table.specs.Parts.{seen};
+ghost use Rattle.checker.specs.Told.{told as verdict_told};
 ghost use Rattle.traversal_lists.specs.Outcome.{outcome};
-ghost use Rattle.traversal.specs.Ring.{ring_of};
-ghost use Rattle.words.specs.Same.{one_unless};
-ghost use Rattle.vectors_looks.specs.Judge.{word_is, two_are, three_are, checked_as, ringed_as, bit_of, moved_as};
+ghost use Rattle.walker.specs.Told.{told_step};
+ghost use Rattle.vectors_list.specs.Op.{number_of};
+ghost use Rattle.vectors_looks.specs.Judge.{three_are, checked_as, ringed_as, moved_as};
 ghost use Rattle.vectors_looks.specs.Look.{
   ring_kind_of,
-  move_of,
+  move_kind_of,
   next_part,
-  whole_part,
   part_right,
   points_right,
   corners_right,
@@ -25,314 +25,203 @@ ghost use Rattle.vectors_looks.specs.Look.{
   look_right,
 };
 
+use checker::Fault;
 use corner::Corner;
-use flag::both;
-use table::{Counts, at, fill};
-use traversal_lists::Ring;
+use refusal::Refusal;
+use table::{Seen, at};
+use traversal_lists::{Kind, Ring};
+use vectors_list::Op;
 use vertex::Vertex;
-use walker::Moved;
-use words::{first, hold_numbers, holds, one_unless, past};
+use walker::{Move, Walker};
+use words::{first, hold_numbers, holds, past};
 
 // ---- what is listed
 
-fn word_is(w: &[u32], k: usize, v: usize) -> bool
-    ensures { result ≡ word_is w.now k v }
-{
-    at(w, k, 0) as usize == v
-}
-
-pub fn two_are(w: &[u32], k: u32, a: usize, b: usize) -> bool
-    ensures { result ≡ two_are w.now k a b }
-{
-    let i = k as usize;
-    both(word_is(w, i, a), word_is(w, i + 1, b))
-}
-
-pub fn three_are(w: &[u32], k: u32, a: usize, b: usize, c: usize) -> bool
+// Whether the three words from k on are these.
+#[tactic(auto, unfolding(crate::specs::Judge::three_are, crate::specs::Judge::two_are, crate::specs::Judge::word_is))]
+pub fn three_are(w: &[u32], k: u32, a: u32, b: u32, c: u32) -> bool
     ensures { result ≡ three_are w.now k a b c }
 {
     let i = k as usize;
-    both(two_are(w, k, a, b), word_is(w, i + 2, c))
+    at(w, i, 0) == a && at(w, i + 1, 0) == b && at(w, i + 2, 0) == c
 }
 
-fn checked_as(v: checker::Verdict, w: &[u32]) -> bool
-    ensures { result ≡ checked_as w.now v }
+#[tactic(auto, unfolding(crate::specs::Judge::checked_as))]
+fn checked_as(found: Result<(), Fault>, w: &[u32]) -> bool
+    ensures { result ≡ checked_as w.now (verdict_told found) }
 {
-    three_are(w, 0, v.answer as usize, v.rule as usize, v.slot as usize)
+    match found {
+        Ok(()) => three_are(w, 0, 0, 0, 0),
+        Err(Fault::Parts) => three_are(w, 0, Refusal::Parts.number(), 0, 0),
+        Err(Fault::Broken { rule, slot }) => three_are(
+            w,
+            0,
+            Refusal::NotWellFormed.number(),
+            rule,
+            slot,
+        ),
+    }
 }
 
-fn ringed_as(b: Ring, w: &[u32]) -> bool
-    ensures { result ≡ ringed_as w.now b.answer b.visited b.written }
+#[tactic(auto, unfolding(crate::specs::Judge::moved_as))]
+fn moved_as(went: Result<bool, Refusal>, there: Corner, w: &[u32]) -> bool
+    ensures { result ≡ moved_as w.now (record { corner = there; step = told_step went }) }
 {
-    three_are(
-        w,
-        2,
-        b.answer as usize,
-        b.visited as usize,
-        b.written as usize,
-    )
-}
-
-fn bit(b: bool) -> usize
-    ensures { result ≡ bit_of b }
-{
-    if b { 1 } else { 0 }
-}
-
-fn moved_as(m: Moved, w: &[u32]) -> bool
-    ensures { result ≡ moved_as w.now m }
-{
-    let s = m.step;
-    let c = m.corner;
-    three_are(w, 2, s.answer as usize, bit(s.moved), c.0 as usize)
+    match went {
+        Ok(moved) => three_are(w, 2, 0, u32::from(moved), there.0),
+        Err(e) => three_are(w, 2, e.number(), 0, there.0),
+    }
 }
 
 // ---- 5 check
 
-fn replay_check(
-    cv: &[u32],
-    co: &[u32],
-    cm: &[u32],
-    vc: &[u32],
-    vm: &[u32],
-    vp: &[f32],
-    counts: Counts,
-    w: &[u32],
-) -> u32
-    ensures { result ≡ one_unless (check_right (seen cv co cm vc vm vp counts) w.now) }
+#[tactic(auto, unfolding(crate::specs::Look::check_right))]
+fn replay_check(t: &Seen, w: &[u32]) -> bool
+    ensures { result ≡ check_right (seen t.now) w.now }
 {
-    let v = checker::check(cv, co, cm, vc, vm, vp, counts);
-    one_unless(both(checked_as(v, w), w.len() == 3))
+    checked_as(checker::check(t), w) && w.len() == 3
 }
 
 // ---- 7 ring
 
-fn ring_of(
-    kind: u32,
-    cv: &[u32],
-    co: &[u32],
-    cm: &[u32],
-    vc: &[u32],
-    vm: &[u32],
-    vp: &[f32],
-    counts: Counts,
-    vertex: Vertex,
-    list: &mut [u32],
-) -> Ring
-    ensures { outcome result list.new ≡ ring_of (ring_kind_of kind) vertex.0
-        (seen cv co cm vc vm vp counts) list.old }
+// No `From`: any other word stands for the last kind in this list alone, and is held to be wrong besides.
+#[tactic(auto, unfolding(crate::specs::Look::ring_kind_of))]
+fn ring_kind(word: u32) -> Kind
+    ensures { result ≡ ring_kind_of word }
 {
-    if kind == 0 {
-        return traversal::ring_corners(cv, co, cm, vc, vm, vp, counts, vertex, list);
+    match word {
+        0 => Kind::Corners,
+        1 => Kind::Vertices,
+        2 => Kind::Faces,
+        3 => Kind::Edges,
+        _ => Kind::BoundingEdges,
     }
-    if kind == 1 {
-        return traversal::ring_vertices(cv, co, cm, vc, vm, vp, counts, vertex, list);
-    }
-    if kind == 2 {
-        return traversal::ring_faces(cv, co, cm, vc, vm, vp, counts, vertex, list);
-    }
-    if kind == 3 {
-        return traversal::ring_edges(cv, co, cm, vc, vm, vp, counts, vertex, list);
-    }
-    traversal::ring_bounding_edges(cv, co, cm, vc, vm, vp, counts, vertex, list)
 }
 
-fn ring_as(b: Ring, w: &[u32], list: &[u32]) -> bool
-    ensures { result ≡ ring_as w.now (outcome b list.now) }
+// A refused ring visits and writes nothing.
+#[tactic(auto, unfolding(crate::specs::Judge::ringed_as))]
+fn ringed_as(ring: &Result<Ring, Refusal>, w: &[u32]) -> bool
+    ensures { (list : List ℕ) → result ≡ ringed_as w.now (outcome ring.now list).answer (outcome ring.now list).visited (outcome ring.now list).written }
 {
-    let same = holds(list, past(w, 7), at(w, 6, 0));
-    let sized = both(at(w, 0, 0) < 5, word_is(w, 5, list.len()));
-    both(both(ringed_as(b, w), same), sized)
+    match ring {
+        Ok(r) => three_are(w, 2, 0, r.visited, r.written),
+        Err(e) => three_are(w, 2, e.number(), 0, 0),
+    }
+}
+
+// Whether the list has the listed length, begins with the words and holds the fill after them.
+#[tactic(auto, unfolding(crate::specs::Look::ring_as, crate::specs::Judge::word_is))]
+fn ring_as(ring: Result<Ring, Refusal>, w: &[u32], list: &[u32]) -> bool
+    ensures { result ≡ ring_as w.now (outcome ring list.now) }
+{
+    (ringed_as(&ring, w) && holds(list, past(w, 7), at(w, 6, 0)))
+        && (at(w, 0, 0) < 5 && at(w, 5, 0) as usize == list.len())
 }
 
 // The list has the listed length.
-fn replay_ring(
-    cv: &[u32],
-    co: &[u32],
-    cm: &[u32],
-    vc: &[u32],
-    vm: &[u32],
-    vp: &[f32],
-    counts: Counts,
-    w: &[u32],
-    list: &mut [u32],
-) -> u32
-    ensures { result ≡ one_unless (ring_right (seen cv co cm vc vm vp counts) (length list.old) w.now) }
+#[tactic(auto, unfolding(crate::specs::Look::ring_right))]
+fn replay_ring(t: &Seen, w: &[u32], list: &mut [u32]) -> bool
+    ensures { result ≡ ring_right (seen t.now) (length list.old) w.now }
 {
-    fill(list, at(w, 6, 0));
-    let b = ring_of(
-        at(w, 0, 0),
-        cv,
-        co,
-        cm,
-        vc,
-        vm,
-        vp,
-        counts,
-        Vertex(at(w, 1, 0)),
-        list,
-    );
-    one_unless(ring_as(b, w, list))
+    list.fill(at(w, 6, 0));
+    let ring = traversal::ring(ring_kind(at(w, 0, 0)), t, Vertex(at(w, 1, 0)), list);
+    ring_as(ring, w, list)
 }
 
 // ---- 8 move
 
-fn move_of<'a>(
-    kind: u32,
-    corner: Corner,
-    cv: &'a [u32],
-    co: &'a [u32],
-    cm: &'a [u32],
-    vc: &'a [u32],
-    vm: &'a [u32],
-    vp: &'a [f32],
-    vertices: u32,
-    corners: u32,
-) -> Moved
-    ensures { result ≡ move_of kind (seen cv co cm vc vm vp (counts_of vertices corners)) corner.0 }
+// No `From`, as for a ring's kind.
+#[tactic(auto, unfolding(crate::specs::Look::move_kind_of))]
+fn move_kind(word: u32) -> Move
+    ensures { result ≡ move_kind_of word }
 {
-    if kind == 0 {
-        return vectors_moves::moved_to_next(corner, cv, co, cm, vc, vm, vp, vertices, corners);
+    match word {
+        0 => Move::Next,
+        1 => Move::Previous,
+        2 => Move::Opposite,
+        3 => Move::SwingLeft,
+        _ => Move::SwingRight,
     }
-    if kind == 1 {
-        return vectors_moves::moved_to_previous(corner, cv, co, cm, vc, vm, vp, vertices, corners);
-    }
-    if kind == 2 {
-        return vectors_moves::moved_to_opposite(corner, cv, co, cm, vc, vm, vp, vertices, corners);
-    }
-    if kind == 3 {
-        return vectors_moves::swung_left(corner, cv, co, cm, vc, vm, vp, vertices, corners);
-    }
-    vectors_moves::swung_right(corner, cv, co, cm, vc, vm, vp, vertices, corners)
 }
 
-fn replay_move<'a>(
-    cv: &'a [u32],
-    co: &'a [u32],
-    cm: &'a [u32],
-    vc: &'a [u32],
-    vm: &'a [u32],
-    vp: &'a [f32],
-    counts: Counts,
-    w: &[u32],
-) -> u32
-    ensures { result ≡ one_unless (move_right (seen cv co cm vc vm vp counts) w.now) }
+// A walker is made at the corner, and goes in place.
+#[tactic(auto, using(crate::proofs::Moves::same_move), unfolding(crate::specs::Look::move_right))]
+fn replay_move(t: &Seen, w: &[u32]) -> bool
+    ensures { result ≡ move_right (seen t.now) w.now }
 {
     let kind = at(w, 0, 0);
-    let corner = Corner(at(w, 1, 0));
-    let m = move_of(
-        kind,
-        corner,
-        cv,
-        co,
-        cm,
-        vc,
-        vm,
-        vp,
-        counts.vertices,
-        counts.corners,
-    );
-    one_unless(both(both(moved_as(m, w), kind < 5), w.len() == 5))
+    let mut walker = Walker {
+        corner: Corner(at(w, 1, 0)),
+    };
+    let went = walker.go(move_kind(kind), t);
+    moved_as(went, walker.corner, w) && kind < 5 && w.len() == 5
 }
 
 // ---- 9 slots
 
 // Each part is rest, m, m words: where the next begins.
+#[tactic(auto, unfolding(crate::specs::Look::next_part))]
 fn next_part(w: &[u32]) -> &[u32]
     ensures { result.now ≡ next_part w.now }
 {
     past(w, 2 + at(w, 1, 0) as usize)
 }
 
-// Whether all its words are there.
-fn whole_part(w: &[u32]) -> bool
-    ensures { result ≡ whole_part w.now }
+// Whether all its words are there, and the part holds them.
+#[tactic(auto, unfolding(crate::specs::Look::part_right, crate::specs::Look::whole_part))]
+fn part_right(part: &[u32], w: &[u32]) -> bool
+    ensures { result ≡ part_right part.now w.now }
 {
-    2 + at(w, 1, 0) as usize <= w.len()
+    let m = at(w, 1, 0) as usize;
+    2 + m <= w.len() && holds(part, first(past(w, 2), m), at(w, 0, 0))
 }
 
-fn part_right(l: &[u32], w: &[u32]) -> bool
-    ensures { result ≡ part_right l.now w.now }
+// The same of floats, which are held to the words as bits: three lines over `hold_numbers`, as the other is over `holds`.
+#[tactic(auto, unfolding(crate::specs::Look::points_right, crate::specs::Look::whole_part))]
+fn points_right(part: &[f32], w: &[u32]) -> bool
+    ensures { result ≡ points_right part.now w.now }
 {
-    let listed = first(past(w, 2), at(w, 1, 0) as usize);
-    both(whole_part(w), holds(l, listed, at(w, 0, 0)))
+    let m = at(w, 1, 0) as usize;
+    2 + m <= w.len() && hold_numbers(part, first(past(w, 2), m), at(w, 0, 0))
 }
 
-fn points_right(l: &[f32], w: &[u32]) -> bool
-    ensures { result ≡ points_right l.now w.now }
-{
-    let listed = first(past(w, 2), at(w, 1, 0) as usize);
-    both(whole_part(w), hold_numbers(l, listed, at(w, 0, 0)))
-}
-
-fn corners_right(cv: &[u32], co: &[u32], cm: &[u32], w: &[u32]) -> bool
-    ensures { result ≡ corners_right cv.now co.now cm.now w.now }
+#[tactic(auto, unfolding(crate::specs::Look::corners_right))]
+fn corners_right(t: &Seen, w: &[u32]) -> bool
+    ensures { result ≡ corners_right t.now.cv.now t.now.co.now t.now.cm.now w.now }
 {
     let second = next_part(w);
     let third = next_part(second);
-    both(
-        both(part_right(cv, w), part_right(co, second)),
-        part_right(cm, third),
-    )
+    part_right(t.cv, w) && part_right(t.co, second) && part_right(t.cm, third)
 }
 
 // The points are the last: nothing follows them.
-fn vertices_right(vc: &[u32], vm: &[u32], vp: &[f32], w: &[u32]) -> bool
-    ensures { result ≡ vertices_right vc.now vm.now vp.now w.now }
+#[tactic(auto, unfolding(crate::specs::Look::vertices_right))]
+fn vertices_right(t: &Seen, w: &[u32]) -> bool
+    ensures { result ≡ vertices_right t.now.vc.now t.now.vm.now t.now.vp.now w.now }
 {
     let second = next_part(w);
     let third = next_part(second);
-    let end = next_part(third);
-    both(
-        both(part_right(vc, w), part_right(vm, second)),
-        both(points_right(vp, third), end.len() == 0),
-    )
+    (part_right(t.vc, w) && part_right(t.vm, second))
+        && (points_right(t.vp, third) && next_part(third).is_empty())
 }
 
-fn replay_slots(
-    cv: &[u32],
-    co: &[u32],
-    cm: &[u32],
-    vc: &[u32],
-    vm: &[u32],
-    vp: &[f32],
-    w: &[u32],
-) -> u32
-    ensures { result ≡ one_unless (slots_right cv.now co.now cm.now vc.now
-        vm.now vp.now w.now) }
+#[tactic(auto, unfolding(crate::specs::Look::slots_right))]
+fn replay_slots(t: &Seen, w: &[u32]) -> bool
+    ensures { result ≡ slots_right t.now.cv.now t.now.co.now t.now.cm.now t.now.vc.now t.now.vm.now t.now.vp.now w.now }
 {
-    let rest = next_part(next_part(next_part(w)));
-    let corners = corners_right(cv, co, cm, w);
-    let vertices = vertices_right(vc, vm, vp, rest);
-    one_unless(both(corners, vertices))
+    corners_right(t, w) && vertices_right(t, next_part(next_part(next_part(w))))
 }
 
 // The records that only look at the table. An unknown op is wrong.
-pub fn look<'a>(
-    op: u32,
-    cv: &'a [u32],
-    co: &'a [u32],
-    cm: &'a [u32],
-    vc: &'a [u32],
-    vm: &'a [u32],
-    vp: &'a [f32],
-    counts: Counts,
-    w: &[u32],
-    list: &mut [u32],
-) -> u32
-    ensures { result ≡ one_unless (look_right op (seen cv co cm vc vm vp counts) (length list.old) w.now) }
+#[tactic(auto, unfolding(crate::specs::Look::look_right))]
+pub fn look(op: Op, t: &Seen, w: &[u32], list: &mut [u32]) -> bool
+    ensures { result ≡ look_right (number_of op) (seen t.now) (length list.old) w.now }
 {
-    if op == 5 {
-        return replay_check(cv, co, cm, vc, vm, vp, counts, w);
+    match op {
+        Op::Check => replay_check(t, w),
+        Op::Ring => replay_ring(t, w, list),
+        Op::Move => replay_move(t, w),
+        Op::Slots => replay_slots(t, w),
+        Op::Rooms | Op::Counts | Op::Put | Op::Build | Op::Run | Op::Unknown => false,
     }
-    if op == 7 {
-        return replay_ring(cv, co, cm, vc, vm, vp, counts, w, list);
-    }
-    if op == 8 {
-        return replay_move(cv, co, cm, vc, vm, vp, counts, w);
-    }
-    if op == 9 {
-        return replay_slots(cv, co, cm, vc, vm, vp, w);
-    }
-    1
 }

@@ -1,3 +1,3 @@
--- The laws behind any record, and behind the lending of the first entries.
-pub mod Arms
+-- The laws behind the lending of the first entries, and behind the ops that words stand for.
+pub mod Ops
 pub mod Seams

@@ -1,32 +1,18 @@
 -- A record on the first entries of its parts: what it leaves of each stands before the entries that stay.
-use Prim.Native.Nat.{ℕ, zero, suc, ◌≤◌, min}
+use Prim.Native.Nat.{ℕ, zero, suc, min}
 use mathlib.Core.Path.{◌≡◌, refl, sym, ap, ◌∙◌}
 use mathlib.Core.List.{List, [], ◌∷◌, ◌++◌}
-use native.Mathlib.Nat.{zero-min, suc-min-suc, min-le_right}
+use Rattle.std.proofs.lemmas.List.{take_min, drop_min}
 use native.Mathlib.Omega.{arith}
 use lib.Ieee.{Float}
 use lib.ListN.{length, take, drop, length-take}
-use lib.Seq.{take-nil, drop-nil}
 use Rattle.table.specs.Table.{table}
 use Rattle.vectors_changes.specs.declared.Rooms.{Rooms}
 use Rattle.vectors_changes.specs.Change.{played}
 use Rattle.vectors_record.specs.Record.{record_left}
 use Rattle.vectors_record.specs.Replay.{within, beyond, Replayed}
 
-pub below : (r a b : ℕ) → r ≡ min a b → r ≤ b
-below r a b e = rw e (min-le_right a b)
-
 module _ {A : Type 0} where
-  take_min : (m : ℕ) (l : List A) → take (min m (length l)) l ≡ take m l
-  take_min zero l = rw (zero-min (length l))
-  take_min (suc m) [] = take-nil (min (suc m) 0)
-  take_min (suc m) (x ∷ l) = rw (suc-min-suc m (length l), take_min m l)
-
-  drop_min : (m : ℕ) (l : List A) → drop (min m (length l)) l ≡ drop m l
-  drop_min zero l = rw (zero-min (length l))
-  drop_min (suc m) [] = drop-nil (min (suc m) 0)
-  drop_min (suc m) (x ∷ l) = rw (suc-min-suc m (length l), drop_min m l)
-
   front : (m : ℕ) (l e : List A) → length e ≡ length (take m l) → take m (e ++ drop m l) ≡ e
   front zero l [] h = refl
   front zero l (x ∷ e) h = absurd (omega (arith, h))

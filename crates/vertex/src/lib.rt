@@ -8,7 +8,9 @@ ghost use Rattle.std.specs.Float.Ieee.{to_bits, of_bits};
 ghost use Rattle.std.specs.Float.Ieee.Scale.{finite};
 ghost use Rattle.vertex.specs.Point.{finite_point, point_of_bits};
 
-#[derive(Clone, Copy)]
+use std::num::{f32_from_bits_with_nan, f32_to_bits_with_nan};
+
+#[derive(Clone, Copy, PartialEq, Eq, PartialOrd, Ord)]
 pub struct Vertex(pub u32);
 
 #[derive(Clone, Copy)]
@@ -32,60 +34,41 @@ impl Vertex {
     }
 }
 
-// Strictly between the infinities: a NaN is below nothing.
+// No infinity and no NaN.
+#[tactic(auto, using(crate::proofs::Finite::finite_same))]
 pub fn is_finite(x: f32) -> bool
     ensures { result ≡ finite x }
 {
-    let top = f32::from_bits(0x7f80_0000);
-    if x < top {
-        if -top < x {
-            return true;
-        }
-    }
-    false
+    x.is_finite()
 }
 
 pub fn float_of(bits: u32) -> f32
     ensures { result ≡ of_bits binary32 bits }
 {
-    if bits % 0x8000_0000 <= 0x7f80_0000 {
-        f32::from_bits(bits)
-    } else {
-        0.0f32 / 0.0f32
-    }
+    f32_from_bits_with_nan(bits)
 }
 
 pub fn bits_of(x: f32) -> u32
     ensures { result ≡ to_bits binary32 x }
 {
-    if x == x { f32::to_bits(x) } else { 0x7fc0_0000 }
+    f32_to_bits_with_nan(x)
 }
 
 impl Point {
+    #[tactic(auto, unfolding(crate::specs::Point::point_of_bits))]
     pub fn of_bits(x: u32, y: u32, z: u32) -> Self
         ensures { result ≡ point_of_bits x y z }
     {
-        let px = float_of(x);
-        let py = float_of(y);
-        let pz = float_of(z);
         Point {
-            x: px,
-            y: py,
-            z: pz,
+            x: float_of(x),
+            y: float_of(y),
+            z: float_of(z),
         }
     }
 
     pub fn finite(self) -> bool
         ensures { result ≡ finite_point self }
     {
-        let x = self.x;
-        let y = self.y;
-        let z = self.z;
-        if is_finite(x) {
-            if is_finite(y) {
-                return is_finite(z);
-            }
-        }
-        false
+        is_finite(self.x) && is_finite(self.y) && is_finite(self.z)
     }
 }

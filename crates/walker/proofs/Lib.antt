@@ -1,3 +1,2 @@
--- Laws of the moves: an arm at a time, and on a well-formed table.
-pub mod Moves
+-- Laws of the moves on a well-formed table.
 pub mod Sound

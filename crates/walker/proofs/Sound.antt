@@ -17,9 +17,8 @@ use Rattle.table.specs.Rules.{WellFormed}
 use Rattle.table.proofs.Lives.{true_live}
 use Rattle.fan.proofs.Fan.{Linked, face_previous}
 use Rattle.fan.proofs.Tables.{table_linked}
-use Rattle.walker.specs.Walker.{stays, arrives, standing, refusal, step_to, step_over, swing_over, swing_to, unless, to_next, to_previous, to_opposite, swung_left, swung_right}
+use Rattle.walker.specs.Walker.{Moved, stays, arrives, standing, refusal, step_to, step_over, swing_over, swing_to, unless, to_next, to_previous, to_opposite, swung_left, swung_right}
 use Rattle.walker.specs.Promises.{NeverTangled, StandsStill, SaysSo}
-use Rattle.walker.specs.declared.Moved.{Moved}
 
 -- the refusals are none of them 15, and where there is none the corner is live
 pub data Stands (t : Table) (c : ℕ) : Type 0 where

@@ -2,7 +2,7 @@
 use Rattle.std.specs.Prelude.{ℕ, ◌≡◌, ◌≢◌, false}
 use Rattle.table.specs.Table.{Table, Shaped}
 use Rattle.table.specs.Rules.{WellFormed}
-use Rattle.walker.specs.declared.Moved.{Moved}
+use Rattle.walker.specs.Walker.{Moved}
 
 -- "A well-formed table never gets 15", from any corner
 abbrev pub NeverTangled : (Table → ℕ → Moved) → Type 0

@@ -3,9 +3,20 @@ use Rattle.std.specs.Prelude.{ℕ, List, Bool, true, false, cond, ◌&&◌, ltb,
 use Rattle.corner.specs.Corner.{absent, next, previous, turn}
 use Rattle.table.specs.Slots.{opposite_at, mark_at}
 use Rattle.table.specs.Table.{Table, shaped, live}
-use Rattle.walker.specs.declared.Moved.{Moved}
+use Rattle.corner.specs.declared.Corner.{Corner}
+use Rattle.walker.specs.declared.Move.{Move}
+use Rattle.walker.specs.declared.Move.TheVariants.{Next, Previous, Opposite, SwingLeft, SwingRight}
 
--- What a move hands back: the corner that it leaves the walker at, the answer, and whether it moved.
+-- the answer, and whether the walker moved: not after a refusal, nor where an absent opposite made it stay
+pub record Step : Type 0 where
+  pub answer : ℕ
+  pub moved : Bool
+
+pub record Moved : Type 0 where
+  pub corner : Corner
+  pub step : Step
+
+-- What a move comes to: the corner that it leaves the walker at, the answer, and whether it moved.
 -- "After any refusal, also halfway through a swing, it stands where it began." "An absent opposite answers 0, leaves it where it stood
 -- and says so": that is to stay with answer 0
 abbrev pub stays : ℕ → ℕ → Moved
@@ -56,3 +67,10 @@ swung_left t c = unless t c (swing_to true t.corner_opposite t.corner_mark t.cor
 
 abbrev pub swung_right : Table → ℕ → Moved
 swung_right t c = unless t c (swing_to false t.corner_opposite t.corner_mark t.corners c)
+
+abbrev pub moved_by : Move → Table → ℕ → Moved
+moved_by Next t c = to_next t c
+moved_by Previous t c = to_previous t c
+moved_by Opposite t c = to_opposite t c
+moved_by SwingLeft t c = swung_left t c
+moved_by SwingRight t c = swung_right t c

@@ -1,13 +1,14 @@
--- A loop that writes f 0, f 1, .., one that tests every number below n, and a part of a list that ends where the list ends.
+-- A loop that writes f 0, f 1, .., one that tests every number below n, and one that reads four bytes at a time.
 use mathlib.Core.Path.{◌≡◌, refl, ap, sym, ◌∙◌}
 use mathlib.Core.Bool.{Bool, true, false, ◌&&◌}
 use mathlib.Core.List.{List, [], ◌∷◌, ◌++◌}
-use Prim.Native.Nat.{ℕ, zero, suc, ◌+◌, ◌-◌, ◌≤◌, ◌<◌}
+use Prim.Native.Nat.{ℕ, zero, suc, ◌+◌, ◌*◌, ◌≤◌, ◌<◌}
 use native.Mathlib.Omega.{arith}
 use native.Mathlib.Numerals.{add-one}
-use lib.ListN.{length, set, length-set, take, drop, length-drop, drop_of_length-le}
+use lib.ListN.{length, set, length-set, take, get_or, get_or-append}
 use lib.Seq.{take_all, take-suc-set}
-use Rattle.words.specs.Words.{written, tabled}
+use Rattle.std.proofs.lemmas.List.{length-append, get_or-append-add, get_or_default}
+use Rattle.words.specs.Words.{written, tabled, word_of, word_no}
 use Rattle.words.specs.Same.{every}
 
 module _ {A : Type 0} (base : ℕ) (f : ℕ → A) (l₀ : List A) where
@@ -19,14 +20,6 @@ module _ {A : Type 0} (base : ℕ) (f : ℕ → A) (l₀ : List A) where
       r ≡ written (k + 1) base f l₀
   unfolding written
   written_more k j l r v p q i e = rw add-one (cc)
-
-  pub written_length : (k : ℕ) → length (written k base f l₀) ≡ length l₀
-  unfolding written
-  written_length zero = refl
-  written_length (suc k) = length-set (written k base f l₀) (base + k) (f k) ∙ written_length k
-
-  pub written_all : (k n : ℕ) (l : List A) → l ≡ written k base f l₀ → k ≡ n → l ≡ written n base f l₀
-  written_all k n l p e = cc
 
 module _ (test : ℕ → Bool) where
   pub every_none : every 0 test ≡ true
@@ -58,19 +51,46 @@ module _ (test : ℕ → Bool) where
   every_fails zero k h q = absurd (omega arith)
   every_fails (suc n) k h q = by_last n (test n) refl (λ e. every_fails n k (apart k n q e h) q)
 
--- a part that starts or ends past the list's end
-module _ {A : Type 0} (l : List A) where
-  pub whole_take : (n : ℕ) → length l < n → l ≡ take n l
-  whole_take n h = sym (take_all n l (omega arith))
+-- an entry of l beside one of w
+module _ {A : Type 0} (l : List A) (w : List ℕ) (rest : ℕ) (none : A) (p : A → ℕ → Bool) where
+  pub told_at : (k : ℕ) (x : A) (y : ℕ) (r b : Bool) → k < length l → x ≡ get_or l k x → y ≡ get_or w k rest → r ≡ p x y → r ≡ b
+      → p (get_or l k none) (get_or w k rest) ≡ b
+  told_at k x y r b i e f g h = let d = get_or_default l k x none i in cc
 
-  pub rest_drop : (a : ℕ) → take (length l - a) (drop a l) ≡ drop a l
-  rest_drop a = take_all (length l - a) (drop a l) (simp length-drop (omega arith))
+-- rest is what is left of the bytes s once k words are read
+module _ (s : List ℕ) where
+  pub record Left (rest : List ℕ) (k : ℕ) : Type 0 where
+    pub long : length rest + 4 * k ≡ length s
+    pub same : (i : ℕ) → get_or rest i 0 ≡ get_or s (4 * k + i) 0
 
-  pub none_drop : (a : ℕ) → length l < a → [] ≡ drop a l
-  none_drop a h = sym (drop_of_length-le l (late h))
+  pub left_all : Left s 0
+  left_all = record { long = omega arith; same = λ i. ap (λ (j : ℕ). get_or s j 0) (same i) }
     where
-      late : length l < a → length l ≤ a
-      late h = omega arith
+      same : (i : ℕ) → i ≡ 4 * 0 + i
+      same i = omega arith
+
+  pub left_more : (rest x more : List ℕ) (k : ℕ) → Left rest k → rest ≡ x ++ more → length x ≡ 4 → Left more (k + 1)
+  left_more rest x more k p e n = record { long = omega (arith, length-append x more, ap length e); same = step }
+    where
+      past : (i : ℕ) → get_or more i 0 ≡ get_or rest (4 + i) 0
+      past i = let a = get_or-append-add x more i 0 in cc
+
+      on : (i : ℕ) → 4 * k + (4 + i) ≡ 4 * (k + 1) + i
+      on i = omega arith
+
+      step : (i : ℕ) → get_or more i 0 ≡ get_or s (4 * (k + 1) + i) 0
+      step i = past i ∙ p.same (4 + i) ∙ ap (λ (j : ℕ). get_or s j 0) (on i)
+
+  pub left_word : (rest x more : List ℕ) (k : ℕ) → Left rest k → rest ≡ x ++ more → length x ≡ 4
+      → word_of (get_or x 0 0) (get_or x 1 0) (get_or x 2 0) (get_or x 3 0) ≡ word_no s k
+  unfolding word_no
+  left_word rest x more k p e n = rw (byte 0 (omega arith), byte 1 (omega arith), byte 2 (omega arith), byte 3 (omega arith), plain)
+    where
+      byte : (i : ℕ) → i < 4 → get_or x i 0 ≡ get_or s (4 * k + i) 0
+      byte i h = let lt : i < length x = omega arith in sym (get_or-append x more 0 i lt) ∙ ap (λ (l : List ℕ). get_or l i 0) (sym e) ∙ p.same i
+
+      plain : get_or s (4 * k + 0) 0 ≡ get_or s (4 * k) 0
+      plain = ap (λ (j : ℕ). get_or s j 0) (omega arith)
 
 -- a loop that has stored f 0, .. f (i - 1) in the first slots of l₀
 module _ {A : Type 0} (l₀ : List A) (f : ℕ → A) where

@@ -1,21 +1,21 @@
-use mathlib.Core.Path.{◌∙◌}
-use Rattle.builder.proofs.Steps.{made_blank, lay_fits, laid_is, begun, made_refused, made_done, cm_long, vm_long, added_shaped}
+use mathlib.Core.Path.{◌≡◌}
+use Rattle.std.proofs.Common.{rules, Err}
+use Rattle.table.specs.Parts.{lent}
+use Rattle.builder.proofs.Steps.{lay_fits, laid_is, begun, made_refused, made_done}
 use Rattle.builder.proofs.add_all.Goals as goal
 
 pub add_vertices-requires : goal.add_vertices-requires
-add_vertices-requires c = lay_fits _ _ _ _ _ _ _ _ _ _ c.requires
+add_vertices-requires c = lay_fits (lent c.args.t.now) _ c.requires
 
-pub clear-none-requires : goal.clear-none-requires
-clear-none-requires c = let f = c.add_faces-r in added_shaped _ _ _ _ _ _ _ _ _ _ c.requires _ _ _ _ f.auto.cv f.auto.co f.auto.vc c.add_vertices.auto.vp
-
-pub returns-then-r-ne0 : goal.returns-then-r-ne0
-returns-then-r-ne0 c = let g = c.requires in let y = c.add_vertices in let f = c.add_faces-r in made_blank _ _ f.result.answer _ _ _ c.clear-none.ensures (cm_long _ _ _ _ _ _ _ _ _ _ g) (vm_long _ _ _ _ _ _ _ _ _ _ g) ∙ made_refused _ _ _ _ _ _ _ _ _ _ g _ _ _ _ _ _ _ f.ensures c.if-r-ne0.true
+pub returns-in_err-added-clause-added : goal.returns-in_err-added-clause-added
+returns-in_err-added-clause-added c =
+    let e : c.from_residual.result ≡ Err c.in_err-added.field-0.0 = search rules in
+    rw e (made_refused (lent c.args.t.now) _ c.requires _ _ c.in_err-added.ensures)
 
 pub finish-requires : goal.finish-requires
-finish-requires c = let g = c.requires in let y = c.add_vertices in let f = c.add_faces-r in begun _ _ _ _ _ _ _ _ _ _ g _ _ _ _ _ _ _ f.ensures c.if-r-ne0.false y.new.vp y.auto.vp
+finish-requires c = begun (lent c.args.t.now) _ c.requires _ _ _ _ _ _ c.in_ok-added.ensures _ c.add_vertices.auto.vp
 
-pub shape_of-vp : goal.shape_of-vp
-shape_of-vp c = c.finish.auto.vp ∙ c.add_vertices.auto.vp
-
-pub returns : goal.returns
-returns c = let a = c.args in let g = c.requires in let y = c.add_vertices in let f = c.add_faces-r in made_done _ _ _ _ _ _ _ _ _ _ g _ _ _ _ _ _ _ f.ensures c.if-r-ne0.false _ (c.finish.ensures a.points.now (laid_is _ _ _ _ _ _ _ _ _ _ g y.new.vp y.ensures))
+pub returns-clause-added : goal.returns-clause-added
+returns-clause-added c =
+    made_done (lent c.args.t.now) _ c.requires _ _ _ _ _ _ c.in_ok-added.ensures _
+    (c.finish.ensures.finished c.args.points.now (laid_is (lent c.args.t.now) _ c.requires _ c.add_vertices.ensures))

@@ -1,22 +1,29 @@
-use mathlib.Core.List.{List}
-use mathlib.Core.Path.{refl, ap, ◌∙◌}
-use Prim.Native.Nat.{ℕ}
-use lib.ListN.{replicate}
-use Rattle.builder_build.specs.Build.{isolated}
-use Rattle.builder.proofs.Steps.{made_blank, finish_full, finish_fits, begun_long, begun_shaped}
+use mathlib.Core.Path.{◌≡◌, ◌∙◌}
+use Rattle.std.proofs.Common.{rules, Err}
+use Rattle.table.specs.Parts.{lent}
+use Rattle.builder_fans.proofs.Passes.{rooms_on}
+use Rattle.builder.proofs.Steps.{chained_by, finish_full, finish_fits}
 use Rattle.builder.proofs.finish.Goals as goal
 
-pub clear-none-requires : goal.clear-none-requires
-clear-none-requires c = let m = c.mark_fans in let t = c.thread_left in let s = c.spread-u in begun_shaped _ _ _ _ _ _ _ _ _ _ c.requires _ _ _ _ _ s.auto.cv (t.auto.cm ∙ m.auto.cm) s.auto.vc t.auto.vm s.auto.vp
+pub returns-in_err-spread-clause-finished : goal.returns-in_err-spread-clause-finished
+returns-in_err-spread-clause-finished c =
+    λ points lay.
+    let m = c.mark_fans.ensures in
+    let k = c.thread_left.ensures in
+    let e : c.from_residual.result ≡ Err c.in_err-spread.field-0.0 = search rules in
+    let d = c.in_err-spread.ensures.ended in
+    rw e (finish_full (lent c.args.t.now) c.args.skipped c.requires _ (chained_by _ _ _ m.marked k.threaded) (rooms_on _ _ _ m.rooms k.rooms) points lay _ d.0 d.1)
 
-pub shape_of-cm-then-u-room : goal.shape_of-cm-then-u-room
-shape_of-cm-then-u-room c = c.clear-none.auto.cm ∙ c.thread_left.auto.cm ∙ c.mark_fans.auto.cm
+pub returns-clause-rooms : goal.returns-clause-rooms
+returns-clause-rooms c =
+    let i = c.isolate.ensures.rooms in
+    rooms_on _ _ _ (rooms_on _ _ _ c.mark_fans.ensures.rooms c.thread_left.ensures.rooms)
+    (rooms_on _ _ _ c.spread.ensures.rooms (record { cv = i.cv; co = i.co; cm = i.cm ∙ c.fill.auto.self; vc = i.vc; vm = i.vm ∙ c.fill-2.auto.self; vp = i.vp }))
 
-pub returns-then-u-room : goal.returns-then-u-room
-returns-then-u-room c = λ points lay. let g = c.requires in let m = c.mark_fans in let t = c.thread_left in let s = c.spread-u in made_blank _ _ 5 _ _ _ c.clear-none.ensures (t.auto.cm ∙ m.auto.cm) (t.auto.vm ∙ begun_long _ _ _ _ _ _ _ _ _ _ g) ∙ finish_full _ _ _ _ _ _ _ _ _ _ _ _ _ _ _ _ _ _ points g refl lay m.ensures t.ensures s.ensures c.if-u-room.true
-
-pub shape_of-cm : goal.shape_of-cm
-shape_of-cm c = c.fill.auto.l ∙ c.thread_left.auto.cm ∙ c.mark_fans.auto.cm
-
-pub returns : goal.returns
-returns c = λ points lay. let g = c.requires in let m = c.mark_fans in let t = c.thread_left in let s = c.spread-u in let p = c.fill in let q = c.fill-2 in let i = c.isolate in finish_fits _ _ _ _ _ _ _ _ _ _ _ _ _ _ _ _ _ _ points g refl lay m.ensures t.ensures s.ensures c.if-u-room.false _ _ (p.ensures ∙ ap (λ (k : ℕ). replicate k 0) (t.auto.cm ∙ m.auto.cm)) (i.ensures ∙ ap (λ (x : List ℕ). isolated s.new.vc s.result 0 x) (q.ensures ∙ ap (λ (k : ℕ). replicate k 0) (t.auto.vm ∙ begun_long _ _ _ _ _ _ _ _ _ _ g)))
+pub returns-clause-finished : goal.returns-clause-finished
+returns-clause-finished c =
+    λ points lay.
+    let m = c.mark_fans.ensures in
+    let k = c.thread_left.ensures in
+    finish_fits (lent c.args.t.now) c.args.skipped c.requires _ (chained_by _ _ _ m.marked k.threaded) (rooms_on _ _ _ m.rooms k.rooms) points lay _
+    c.spread.ensures.rooms c.in_ok-spread.ensures.ended _ _ (c.fill.ensures.after (λ y e. e)) (c.fill-2.ensures.after (λ y e. e)) _ c.isolate.ensures.isolated

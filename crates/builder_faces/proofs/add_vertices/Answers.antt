@@ -1,22 +1,14 @@
-use mathlib.Core.Path.{refl}
+use mathlib.Core.Path.{◌≡◌, sym}
+use Prim.Native.Nat.{◌+◌, ◌≤◌}
 use native.Mathlib.Omega.{arith}
-use Rattle.builder_faces.proofs.Laying.{laying_start, laying_on, laying_end}
+use lib.ListN.{length}
+use lib.Seq.{sets-eq}
 use Rattle.builder_faces.proofs.add_vertices.Goals as goal
 
-pub loop-i-init : goal.loop-i-init
-loop-i-init c = laying_start _ _
-
-pub bounds-vp-i : goal.bounds-vp-i
-bounds-vp-i c = let f = c.loop-i.invariant in omega (arith, f.size, c.requires)
-
-pub overflow_add-i : goal.overflow_add-i
-overflow_add-i c = omega arith
-
-pub loop-i-smaller : goal.loop-i-smaller
-loop-i-smaller c = omega arith
-
-pub loop-i-preserved : goal.loop-i-preserved
-loop-i-preserved c = let k = c.loop-i in laying_on _ _ k.vp k.i _ _ k.invariant c.loop-i-test.true refl
-
 pub returns : goal.returns
-returns c = let k = c.loop-i in laying_end _ _ k.vp k.i k.invariant c.loop-i-test.false
+returns c =
+    let ps = c.args.points.now in
+    let z : 0 + length ps ≡ length ps = omega arith in
+    let fits : 0 + length ps ≤ length c.args.vp.now = omega (arith, c.requires) in
+    let e = rw z at (sets-eq ps c.args.vp.now 0 fits) in
+    rw c.copy_from_slice.ensures.after (sym e)

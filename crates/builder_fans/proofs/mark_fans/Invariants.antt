@@ -6,7 +6,4 @@ use Rattle.ring.specs.Ring.{ring}
 use Rattle.builder_fans.proofs.mark_fans.Given as goal
 
 abbrev pub invariant-loop-v : goal.invariant-loop-v
-invariant-loop-v l = (length l.cm ≡ length l.initial.cm) × (l.v ≤ l.count) × (marked (ring l.co l.n) l.vc (l.count - l.v) l.v l.cm ≡ marked (ring l.co l.n) l.vc l.count 0 l.initial.cm)
-
-abbrev pub decreases-loop-v : goal.decreases-loop-v
-decreases-loop-v l = l.count - l.v
+invariant-loop-v l = (length l.cm ≡ length l.initial.cm) × (l.v ≤ l.v-end) × (marked (ring l.co l.n) l.vc (l.v-end - l.v) l.v l.cm ≡ marked (ring l.co l.n) l.vc l.v-end 0 l.initial.cm)

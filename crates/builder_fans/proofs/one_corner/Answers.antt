@@ -1,11 +1,24 @@
+use mathlib.Core.Path.{refl, sym, ap, ◌∙◌}
+use borrow.Author.Tests.{eqb-true, not-false}
+use lib.ListN.{get_or}
+use Rattle.refusal.specs.declared.Refusal.TheVariants.{NoVertexRoom}
+use Rattle.table.proofs.Words.{eqb_not}
+use Rattle.table.specs.Parts.{lent}
+use Rattle.table.specs.Table.{Table}
 use Rattle.builder_fans.proofs.Passes.{step_not, step_full, step_gives}
 use Rattle.builder_fans.proofs.one_corner.Goals as goal
 
-pub returns-then-u-room : goal.returns-then-u-room
-returns-then-u-room c = step_full _ _ _ _ _ _ _ _ _ c.at.ensures c.if-at-v.true c.if-u-room.true _ _ _
+pub returns-then-ne-clause-ended : goal.returns-then-ne-clause-ended
+returns-then-ne-clause-ended c =
+    step_not (lent c.args.t.now) c.args.v.0 c.args.c.0 _ (c.vertex_of.ensures ∙ ap (λ (t : Table). get_or t.corner_vertex c.args.c.0 0) c.seen.ensures)
+    c.requires.few (eqb_not _ _ (sym c.if-ne.ensures))
 
-pub returns-then-at-v : goal.returns-then-at-v
-returns-then-at-v c = step_gives _ _ _ _ _ _ _ _ _ c.at.ensures c.if-at-v.true c.requires.u_le_room c.if-u-room.false _ _ _ c.give.ensures
+pub returns-then-t-clause-ended : goal.returns-then-t-clause-ended
+returns-then-t-clause-ended c =
+    step_full (lent c.args.t.now) c.args.v.0 c.args.c.0 _ (c.vertex_of.ensures ∙ ap (λ (t : Table). get_or t.corner_vertex c.args.c.0 0) c.seen.ensures)
+    (eqb-true _ _ (not-false _ (sym c.if-ne.ensures))) c.if-t.true (lent c.args.t.now) NoVertexRoom refl
 
-pub returns : goal.returns
-returns c = step_not _ _ _ _ _ _ _ _ _ c.at.ensures c.requires.u_le_room c.if-at-v.false
+pub returns-clause-ended : goal.returns-clause-ended
+returns-clause-ended c =
+    step_gives (lent c.args.t.now) c.args.v.0 c.args.c.0 _ (c.vertex_of.ensures ∙ ap (λ (t : Table). get_or t.corner_vertex c.args.c.0 0) c.seen.ensures)
+    (eqb-true _ _ (not-false _ (sym c.if-ne.ensures))) c.requires.few c.if-t.false _ c.give.ensures.given

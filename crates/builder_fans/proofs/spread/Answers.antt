@@ -1,24 +1,30 @@
-use native.Mathlib.Omega.{arith}
-use Rattle.builder_fans.proofs.Runs.{running_start, running_full, running_on, running_end}
+use mathlib.Core.Path.{◌≡◌, refl}
+use Rattle.std.proofs.Common.{rules, Err}
+use Rattle.table.specs.Parts.{lent}
+use Rattle.builder_fans.proofs.Passes.{parts_on}
+use Rattle.builder_fans.proofs.Runs.{running_start, running_end, running_roomy, running_full, running_on}
 use Rattle.builder_fans.proofs.spread.Goals as goal
 
 pub loop-v-init : goal.loop-v-init
-loop-v-init c = running_start _ _ _ _ _ _ _ _ _ _ _ c.requires.count_le_room
+loop-v-init c = record { parts = (refl, refl, refl, refl, refl, refl); running = running_start (lent c.args.t.now) c.requires.few }
 
-pub one_vertex-w-requires : goal.one_vertex-w-requires
-one_vertex-w-requires c = let k = c.loop-v.invariant in record { u_le_room = k.few; room_bound = omega arith }
+pub one_vertex-requires : goal.one_vertex-requires
+one_vertex-requires c = running_roomy _ _ _ _ c.loop-v.invariant.running c.requires
 
-pub returns-then-w-room : goal.returns-then-w-room
-returns-then-w-room c = running_full _ _ _ _ _ _ _ _ _ _ _ _ _ _ _ _ c.loop-v.invariant c.loop-v-test.true _ _ _ _ c.one_vertex-w.ensures c.if-w-room.true
-
-pub overflow_add-v : goal.overflow_add-v
-overflow_add-v c = omega arith
-
-pub loop-v-smaller : goal.loop-v-smaller
-loop-v-smaller c = omega arith
+pub returns-in_err-one_vertex-clause-ended : goal.returns-in_err-one_vertex-clause-ended
+returns-in_err-one_vertex-clause-ended c =
+    let e : c.from_residual.result ≡ Err c.in_err-one_vertex.field-0.0 = search rules in
+    let d = c.in_err-one_vertex.ensures.ended in
+    rw e (d.0, running_full _ _ _ _ c.loop-v.invariant.running c.loop-v-test.true d.1)
 
 pub loop-v-preserved : goal.loop-v-preserved
-loop-v-preserved c = let w = c.one_vertex-w in running_on _ _ _ _ _ _ _ _ _ _ _ _ _ _ _ _ c.loop-v.invariant c.loop-v-test.true _ _ _ _ w.ensures c.if-w-room.false w.auto.cv w.auto.vc w.auto.vp
+loop-v-preserved c =
+    let k = c.loop-v in
+    let w = c.one_vertex.ensures in
+    record {
+      parts = parts_on c.args.t.now k.t c.one_vertex.new.t k.invariant.parts w.parts;
+      running = running_on _ _ _ _ k.invariant.running c.loop-v-test.true _ w.rooms c.in_ok-one_vertex.ensures.ended;
+    }
 
-pub returns : goal.returns
-returns c = running_end _ _ _ _ _ _ _ _ _ _ _ _ _ _ _ _ c.loop-v.invariant c.loop-v-test.false
+pub returns-clause-ended : goal.returns-clause-ended
+returns-clause-ended c = running_end _ _ _ _ c.loop-v.invariant.running c.loop-v-test.false

@@ -1,31 +1,39 @@
-use mathlib.Core.Path.{refl}
+use mathlib.Core.Path.{◌≡◌, refl, ap, ◌∙◌}
+use lib.ListN.{get_or}
+use Rattle.table.specs.Table.{Table}
+use Prim.Native.Nat.{◌-◌, ◌+◌}
 use native.Mathlib.Omega.{arith}
-use Rattle.builder_fans.proofs.Passes.{taking_stop, taking_out, taking_full, taking_on}
+use Rattle.std.proofs.Common.{rules, Err}
+use Rattle.table.specs.Parts.{lent}
+use Rattle.builder_fans.proofs.Passes.{taking_start, taking_stop, taking_out, taking_roomy, taking_full, taking_on, parts_on}
 use Rattle.builder_fans.proofs.take_chain.Goals as goal
 
-pub loop-rest-init : goal.loop-rest-init
-loop-rest-init c = record { cv_length = refl; vc_length = refl; vp_length = refl; few = c.requires.count_le_room; small = omega arith; same = refl }
+pub loop-step-init : goal.loop-step-init
+loop-step-init c =
+    let z : c.args.t.now.corners - 0 ≡ c.args.t.now.corners = omega arith in
+    record { parts = (refl, refl, refl, refl, refl, refl); taking = rw z (taking_start (lent c.args.t.now) _ _ c.requires.few (omega arith)) }
 
-pub returns-then-h-lt2 : goal.returns-then-h-lt2
-returns-then-h-lt2 c = taking_stop _ _ _ _ _ _ _ _ _ _ _ _ _ _ c.loop-rest.invariant c.if-h-lt2.true
+pub returns-then-h-lt2-clause-ended : goal.returns-then-h-lt2-clause-ended
+returns-then-h-lt2-clause-ended c = taking_stop _ _ _ _ _ _ c.loop-step.invariant.taking c.if-h-lt2.true
 
-pub one_corner-w-requires : goal.one_corner-w-requires
-one_corner-w-requires c = let k = c.loop-rest.invariant in record { u_le_room = k.few; room_bound = omega arith }
+pub one_corner-requires : goal.one_corner-requires
+one_corner-requires c = taking_roomy _ _ _ _ _ _ c.loop-step.invariant.taking c.requires
 
-pub returns-then-w-room : goal.returns-then-w-room
-returns-then-w-room c = taking_full _ _ _ _ _ _ _ _ _ _ _ _ _ _ c.loop-rest.invariant c.loop-rest-test.true c.if-h-lt2.false _ _ _ _ c.one_corner-w.ensures c.if-w-room.true
+pub returns-in_err-one_corner-clause-ended : goal.returns-in_err-one_corner-clause-ended
+returns-in_err-one_corner-clause-ended c =
+    let e : c.from_residual.result ≡ Err c.in_err-one_corner.field-0.0 = search rules in
+    let d = c.in_err-one_corner.ensures.ended in
+    rw e (d.0, taking_full _ _ _ _ _ _ c.loop-step.invariant.taking (omega (arith, c.loop-step-test.true)) c.if-h-lt2.false d.1)
 
-pub overflow_cast-c : goal.overflow_cast-c
-overflow_cast-c c = let k = c.loop-rest.invariant in omega (arith, k.small)
+pub loop-step-preserved : goal.loop-step-preserved
+loop-step-preserved c =
+    let k = c.loop-step in
+    let z : c.args.t.now.corners - (k._step + 1) ≡ c.args.t.now.corners - k._step - 1 = omega arith in
+    let w = c.one_corner.ensures in
+    record {
+      parts = parts_on c.args.t.now k.t c.one_corner.new.t k.invariant.parts w.parts;
+      taking = rw z (taking_on _ _ _ _ _ _ k.invariant.taking (omega (arith, c.loop-step-test.true)) c.if-h-lt2.false _ w.rooms c.in_ok-one_corner.ensures.ended _ (c.at-h.ensures ∙ ap (λ (t : Table). get_or t.corner_mark (k.h - 2) 0) c.seen.ensures) (omega arith));
+    }
 
-pub overflow_sub-rest : goal.overflow_sub-rest
-overflow_sub-rest c = omega arith
-
-pub loop-rest-smaller : goal.loop-rest-smaller
-loop-rest-smaller c = omega arith
-
-pub loop-rest-preserved : goal.loop-rest-preserved
-loop-rest-preserved c = let w = c.one_corner-w in taking_on _ _ _ _ _ _ _ _ _ _ _ _ _ _ c.loop-rest.invariant c.loop-rest-test.true c.if-h-lt2.false _ _ _ _ w.ensures c.if-w-room.false w.auto.cv w.auto.vc w.auto.vp _ c.at-h.ensures (omega arith)
-
-pub returns : goal.returns
-returns c = taking_out _ _ _ _ _ _ _ _ _ _ _ _ _ _ c.loop-rest.invariant c.loop-rest-test.false
+pub returns-clause-ended : goal.returns-clause-ended
+returns-clause-ended c = taking_out _ _ _ _ _ _ c.loop-step.invariant.taking (omega (arith, c.loop-step-test.false))

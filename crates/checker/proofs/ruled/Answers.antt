@@ -1,34 +1,31 @@
--- `checker::ruled` meets its contract: every test before k passes everywhere, those too that the quick pass has settled.
+-- `checker::ruled` meets its contract: every test before the one at hand passes everywhere, those too that the quick pass has settled.
+use Prim.Native.Nat.{◌+◌}
 use native.Mathlib.Omega.{arith}
-use Rattle.table.specs.Table.{table}
+use Rattle.table.specs.Parts.{seen}
 use Rattle.checker.proofs.First.{passed_more}
-use Rattle.checker.proofs.Order.{all_clean, clean_yes, ruled_bad, ruled_good}
+use Rattle.checker.proofs.Order.{settled_start, tests_from, clean_yes, ruled_bad, ruled_good}
 use Rattle.checker.proofs.ruled.Goals as goal
+use Rattle.checker.proofs.ruled.Goals.{then-passes, else-passes}
 
-pub loop-k-init : goal.loop-k-init
-loop-k-init c =
-    let z = c.args in
-    let s = c.passing-k.ensures z.vc.now z.vp.now in
-    let t = table z.cv.now z.co.now z.cm.now z.vc.now z.vm.now z.vp.now z.nv z.nc in
-    record { within = s.0; passes = λ k l. all_clean t k (s.1 k l) }
+pub returns-in-Some : goal.returns-in-Some
+returns-in-Some c =
+    let k = c.if-passes.settled + c.loop-test.test-index in
+    let is = tests_from c.if-passes.settled c.loop-test.test-index _ c.loop-test-test.true in
+    ruled_bad (seen c.args.t.now) k _ is.0 _ c.first_of.ensures.first _ c.in-Some.is c.in-Some.ensures.within _ _ c.loop-test.invariant is.1
+    c.rule.ensures c.slot.ensures
 
-pub returns-then-i-span : goal.returns-then-i-span
-returns-then-i-span c =
-    ruled_bad _ _ _ c.test_at-test.ensures _ c.first_of-i.ensures
-    _ c.span.ensures _ _ c.loop-k.invariant (omega arith)
-    c.if-i-span.true c.rule_of.ensures c.slot_of.ensures
+pub loop-test-init : goal.loop-test-init
+loop-test-init c =
+    elim c.if-passes.branch [
+      | then-passes w ↦ settled_start (seen c.args.t.now) _ _ w.settled-is (omega arith) (c.passes.ensures w.if-passes.true)
+      | else-passes w ↦ settled_start (seen c.args.t.now) _ _ w.settled-is (omega arith) (λ k l. absurd (omega arith))
+    ]
 
-pub overflow_add-k : goal.overflow_add-k
-overflow_add-k c = omega arith
-
-pub loop-k-smaller : goal.loop-k-smaller
-loop-k-smaller c = omega arith
-
-pub loop-k-preserved : goal.loop-k-preserved
-loop-k-preserved c =
-    passed_more _ _ _ c.loop-k.invariant (omega arith)
-    (clean_yes _ _ _ c.test_at-test.ensures _ c.first_of-i.ensures _ c.span.ensures
-    c.if-i-span.false)
+pub loop-test-preserved : goal.loop-test-preserved
+loop-test-preserved c =
+    let k = c.if-passes.settled + c.loop-test.test-index in
+    let is = tests_from c.if-passes.settled c.loop-test.test-index _ c.loop-test-test.true in
+    passed_more _ _ k _ c.loop-test.invariant (omega arith) is.1 (clean_yes (seen c.args.t.now) k _ is.0 _ c.first_of.ensures.first c.in_default.is)
 
 pub returns : goal.returns
-returns c = ruled_good _ _ c.loop-k.invariant (omega arith)
+returns c = ruled_good _ _ c.loop-test.invariant (omega arith)

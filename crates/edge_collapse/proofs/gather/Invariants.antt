@@ -1,12 +1,7 @@
-use Rattle.edge_collapse.proofs.Fronts.{Gathering}
-use Rattle.ring.proofs.Steps.{stands}
-use Rattle.ring.specs.Ring.{sweep}
-use Rattle.corner.specs.Corner.{next}
-use mathlib.Core.Bool.{true}
+use Prim.Native.Nat.{◌-◌}
+use Rattle.edge_collapse.specs.Judged.{listed}
+use Rattle.edge_collapse.proofs.Walks.{Gathering}
 use Rattle.edge_collapse.proofs.gather.Given as goal
 
-abbrev pub invariant-loop-rest : goal.invariant-loop-rest
-invariant-loop-rest l = Gathering l.cv l.co l.n l.first (sweep true l.co (next l.first) l.rest (stands true l.via)) l.initial.near l.near l.m
-
-abbrev pub decreases-loop-rest : goal.decreases-loop-rest
-decreases-loop-rest l = l.rest
+abbrev pub invariant-loop-step : goal.invariant-loop-step
+invariant-loop-step l = Gathering l.t.cv.now l.t.co.now l.t.corners l.fn.c0.0 (l.t.corners - l._step) l.via (listed l.near)

@@ -1,26 +1,22 @@
 use Rattle.script.proofs.Arms.{run_1, run_8, run_7, run_0, good}
-use Rattle.table.specs.Table.{table}
-use native.Mathlib.Omega.{arith}
 use Rattle.script.proofs.run.Goals as goal
 
-pub run_commands-after-requires : goal.run_commands-after-requires
-run_commands-after-requires c =
-    let a = c.args in
-    let t = table a.cv.now a.co.now a.cm.now a.vc.now a.vm.now a.vp.now a.counts.vertices a.counts.corners in
-    record {
-      good = good a.script.now a.answers.now t c.is_shaped.result c.is_shaped.ensures c.if-is_shaped.true c.fits.result c.fits.ensures c.if-fits.true
-          c.check-v.result c.check-v.ensures c.if-v-eq0.true;
-      n_in_bounds = omega arith;
-    }
+pub returns-then-not-is_shaped-clause-outcome : goal.returns-then-not-is_shaped-clause-outcome
+returns-then-not-is_shaped-clause-outcome c = run_1 _ _ _ _ c.seen.ensures _ c.is_shaped.ensures c.if-not-is_shaped.true
 
-pub returns-then-v-eq0 : goal.returns-then-v-eq0
-returns-then-v-eq0 c = let a = c.args in run_0 a.script.now a.answers.now (table a.cv.now a.co.now a.cm.now a.vc.now a.vm.now a.vp.now a.counts.vertices a.counts.corners) c.is_shaped.result c.is_shaped.ensures c.if-is_shaped.true c.fits.result c.fits.ensures c.if-fits.true c.check-v.result c.check-v.ensures c.if-v-eq0.true _ _ c.run_commands-after.ensures
+pub returns-then-not-fits-clause-outcome : goal.returns-then-not-fits-clause-outcome
+returns-then-not-fits-clause-outcome c =
+    run_8 _ _ _ _ c.seen.ensures _ c.is_shaped.ensures c.if-not-is_shaped.false _ c.fits.ensures c.if-not-fits.true
 
-pub returns-then-fits : goal.returns-then-fits
-returns-then-fits c = let a = c.args in run_7 a.script.now a.answers.now (table a.cv.now a.co.now a.cm.now a.vc.now a.vm.now a.vp.now a.counts.vertices a.counts.corners) c.is_shaped.result c.is_shaped.ensures c.if-is_shaped.true c.fits.result c.fits.ensures c.if-fits.true c.check-v.result c.check-v.ensures c.if-v-eq0.false
+pub returns-in_err-check-clause-outcome : goal.returns-in_err-check-clause-outcome
+returns-in_err-check-clause-outcome c =
+    run_7 _ _ _ _ c.seen.ensures _ c.is_shaped.ensures c.if-not-is_shaped.false _ c.fits.ensures c.if-not-fits.false _ _
+    c.from_residual.ensures (rw c.seen-2.ensures at c.in_err-check.ensures)
 
-pub returns-then-is_shaped : goal.returns-then-is_shaped
-returns-then-is_shaped c = let a = c.args in run_8 a.script.now a.answers.now (table a.cv.now a.co.now a.cm.now a.vc.now a.vm.now a.vp.now a.counts.vertices a.counts.corners) c.is_shaped.result c.is_shaped.ensures c.if-is_shaped.true c.fits.result c.fits.ensures c.if-fits.false
+pub run_commands-requires-clause-good : goal.run_commands-requires-clause-good
+run_commands-requires-clause-good c = good _ (rw c.seen-2.ensures at c.in_ok-check.ensures)
 
-pub returns : goal.returns
-returns c = let a = c.args in run_1 a.script.now a.answers.now (table a.cv.now a.co.now a.cm.now a.vc.now a.vm.now a.vp.now a.counts.vertices a.counts.corners) c.is_shaped.result c.is_shaped.ensures c.if-is_shaped.false
+pub returns-clause-outcome : goal.returns-clause-outcome
+returns-clause-outcome c =
+    run_0 _ _ _ _ c.seen.ensures _ c.is_shaped.ensures c.if-not-is_shaped.false _ c.fits.ensures c.if-not-fits.false
+    (rw c.seen-2.ensures at c.in_ok-check.ensures) _ _ c.run_commands.ensures.completed

@@ -1,20 +1,23 @@
-use Rattle.script_step.proofs.Arms.{refused, done, flip_ready, flip_answered, flip_done}
+use Rattle.script_answers.specs.Answers.{answer}
+use Rattle.script_step.specs.Step.{effect}
+use Rattle.script_step.proofs.Arms.{flip_inner, flip_vertices_there, done, refused}
 use Rattle.script_command.specs.declared.Edit.TheVariants.{Flip}
-use Rattle.table.specs.Table.{table}
-use mathlib.Core.Path.{sym, ◌∙◌}
 use Rattle.script_step.proofs.flip.Goals as goal
 
-pub returns-then-refusal-ne0 : goal.returns-then-refusal-ne0
-returns-then-refusal-ne0 c = λ vm vp. let a = c.args in let r = c.flip_answer-refusal in refused (table a.cv.now a.co.now a.cm.now a.vc.now vm vp a.counts.vertices a.counts.corners) (Flip a.c) r.result (flip_answered (table a.cv.now a.co.now a.cm.now a.vc.now vm vp a.counts.vertices a.counts.corners) a.c r.result (r.ensures a.vc.now vm vp a.counts.vertices)) c.if-refusal-ne0.true
-
-pub flip_edge-requires : goal.flip_edge-requires
-flip_edge-requires c =
+pub returns-in_err-flip_answer-clause-stepped : goal.returns-in_err-flip_answer-clause-stepped
+unfolding answer
+returns-in_err-flip_answer-clause-stepped c =
     let a = c.args in
-    let g = c.requires in
-    let r = c.flip_answer-refusal in
-    let t = table a.cv.now a.co.now a.cm.now a.vc.now g.vm g.vp a.counts.vertices a.counts.corners in
-    let k = flip_ready t a.c.0 g.good (sym (r.ensures a.vc.now g.vm g.vp a.counts.vertices) ∙ c.if-refusal-ne0.false) in
-    record { edge_lt_absent = k.0; edge_there = k.1 }
+    refused _ (Flip a.c) _ c.seen.ensures _ _ c.from_residual.ensures c.in_err-flip_answer.ensures
 
-pub returns : goal.returns
-returns c = λ vm vp. let a = c.args in let r = c.flip_answer-refusal in done (table a.cv.now a.co.now a.cm.now a.vc.now vm vp a.counts.vertices a.counts.corners) (Flip a.c) _ r.result (flip_answered (table a.cv.now a.co.now a.cm.now a.vc.now vm vp a.counts.vertices a.counts.corners) a.c r.result (r.ensures a.vc.now vm vp a.counts.vertices)) c.if-refusal-ne0.false (flip_done (table a.cv.now a.co.now a.cm.now a.vc.now vm vp a.counts.vertices a.counts.corners) a.c _ (c.flip_edge.ensures a.cm.now vm vp a.counts.vertices a.counts.corners))
+pub flip_edge-requires-clause-edge : goal.flip_edge-requires-clause-edge
+flip_edge-requires-clause-edge c = flip_inner _ _ c.requires _ c.seen.ensures c.in_ok-flip_answer.ensures
+
+pub flip_edge-requires-clause-vertices : goal.flip_edge-requires-clause-vertices
+flip_edge-requires-clause-vertices c = flip_vertices_there _ _ c.requires _ c.seen.ensures c.in_ok-flip_answer.ensures
+
+pub returns-clause-stepped : goal.returns-clause-stepped
+unfolding answer effect
+returns-clause-stepped c =
+    let a = c.args in
+    done _ (Flip a.c) _ c.seen.ensures _ c.in_ok-flip_answer.ensures c.flip_edge.ensures.table

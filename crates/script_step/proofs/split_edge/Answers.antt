@@ -1,19 +1,23 @@
-use Rattle.script_step.proofs.Arms.{refused, done, edge_ready, edge_answered, edge_done}
+use Rattle.script_answers.specs.Answers.{answer}
+use Rattle.script_step.specs.Step.{effect}
+use Rattle.script_step.proofs.Arms.{edge_below, edge_near, done, refused}
 use Rattle.script_command.specs.declared.Edit.TheVariants.{SplitEdge}
-use Rattle.table.specs.Table.{table}
-use mathlib.Core.Path.{refl, sym, ◌∙◌}
 use Rattle.script_step.proofs.split_edge.Goals as goal
 
-pub returns-then-a-ne0 : goal.returns-then-a-ne0
-returns-then-a-ne0 c = let a = c.args in let r = c.split_edge_answer-a in refused (table a.cv.now a.co.now a.cm.now a.vc.now a.vm.now a.vp.now a.counts.vertices a.counts.corners) (SplitEdge a.c a.p) r.result (edge_answered (table a.cv.now a.co.now a.cm.now a.vc.now a.vm.now a.vp.now a.counts.vertices a.counts.corners) a.c a.p r.result (r.ensures a.cv.now a.vc.now a.vm.now a.vp.now refl)) c.if-a-ne0.true
-
-pub split_edge-made-requires : goal.split_edge-made-requires
-split_edge-made-requires c =
+pub returns-in_err-split_edge_answer-clause-stepped : goal.returns-in_err-split_edge_answer-clause-stepped
+unfolding answer
+returns-in_err-split_edge_answer-clause-stepped c =
     let a = c.args in
-    let r = c.split_edge_answer-a in
-    let t = table a.cv.now a.co.now a.cm.now a.vc.now a.vm.now a.vp.now a.counts.vertices a.counts.corners in
-    let k = edge_ready t a.c.0 c.requires a.p (sym (r.ensures a.cv.now a.vc.now a.vm.now a.vp.now refl) ∙ c.if-a-ne0.false) in
-    record { corners_bound = k.0; edge_there = k.1 }
+    refused _ (SplitEdge a.c a.p) _ c.seen.ensures _ _ c.from_residual.ensures c.in_err-split_edge_answer.ensures
 
-pub returns : goal.returns
-returns c = let a = c.args in let r = c.split_edge_answer-a in done (table a.cv.now a.co.now a.cm.now a.vc.now a.vm.now a.vp.now a.counts.vertices a.counts.corners) (SplitEdge a.c a.p) _ r.result (edge_answered (table a.cv.now a.co.now a.cm.now a.vc.now a.vm.now a.vp.now a.counts.vertices a.counts.corners) a.c a.p r.result (r.ensures a.cv.now a.vc.now a.vm.now a.vp.now refl)) c.if-a-ne0.false (edge_done (table a.cv.now a.co.now a.cm.now a.vc.now a.vm.now a.vp.now a.counts.vertices a.counts.corners) a.c a.p _ c.split_edge-made.ensures)
+pub split_edge-requires-clause-edge : goal.split_edge-requires-clause-edge
+split_edge-requires-clause-edge c = edge_below _ _ c.requires _ c.seen.ensures _ c.in_ok-split_edge_answer.ensures
+
+pub split_edge-requires-clause-edge_there : goal.split_edge-requires-clause-edge_there
+split_edge-requires-clause-edge_there c = edge_near _ _ c.requires _ c.seen.ensures _ c.in_ok-split_edge_answer.ensures
+
+pub returns-clause-stepped : goal.returns-clause-stepped
+unfolding answer effect
+returns-clause-stepped c =
+    let a = c.args in
+    done _ (SplitEdge a.c a.p) _ c.seen.ensures _ c.in_ok-split_edge_answer.ensures c.split_edge.ensures.table

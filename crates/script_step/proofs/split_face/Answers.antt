@@ -1,14 +1,20 @@
-use Rattle.script_step.proofs.Arms.{refused, done, face_ready, face_answered, face_done}
+use Rattle.script_answers.specs.Answers.{answer}
+use Rattle.script_step.specs.Step.{effect}
+use Rattle.script_step.proofs.Arms.{face_below, done, refused}
 use Rattle.script_command.specs.declared.Edit.TheVariants.{SplitFace}
-use Rattle.table.specs.Table.{table}
-use mathlib.Core.Path.{refl, sym, ◌∙◌}
 use Rattle.script_step.proofs.split_face.Goals as goal
 
-pub returns-then-a-ne0 : goal.returns-then-a-ne0
-returns-then-a-ne0 c = let a = c.args in let r = c.split_face_answer-a in refused (table a.cv.now a.co.now a.cm.now a.vc.now a.vm.now a.vp.now a.counts.vertices a.counts.corners) (SplitFace a.f a.p) r.result (face_answered (table a.cv.now a.co.now a.cm.now a.vc.now a.vm.now a.vp.now a.counts.vertices a.counts.corners) a.f a.p r.result (r.ensures a.cv.now a.co.now a.vc.now a.vm.now a.vp.now refl)) c.if-a-ne0.true
+pub returns-in_err-split_face_answer-clause-stepped : goal.returns-in_err-split_face_answer-clause-stepped
+unfolding answer
+returns-in_err-split_face_answer-clause-stepped c =
+    let a = c.args in
+    refused _ (SplitFace a.f a.p) _ c.seen.ensures _ _ c.from_residual.ensures c.in_err-split_face_answer.ensures
 
-pub split_face-made-requires : goal.split_face-made-requires
-split_face-made-requires c = let a = c.args in let r = c.split_face_answer-a in face_ready (table a.cv.now a.co.now a.cm.now a.vc.now a.vm.now a.vp.now a.counts.vertices a.counts.corners) a.f.0 c.requires a.p (sym (r.ensures a.cv.now a.co.now a.vc.now a.vm.now a.vp.now refl) ∙ c.if-a-ne0.false)
+pub split_face-requires-clause-face : goal.split_face-requires-clause-face
+split_face-requires-clause-face c = face_below _ _ c.requires _ c.seen.ensures _ c.in_ok-split_face_answer.ensures
 
-pub returns : goal.returns
-returns c = let a = c.args in let r = c.split_face_answer-a in done (table a.cv.now a.co.now a.cm.now a.vc.now a.vm.now a.vp.now a.counts.vertices a.counts.corners) (SplitFace a.f a.p) _ r.result (face_answered (table a.cv.now a.co.now a.cm.now a.vc.now a.vm.now a.vp.now a.counts.vertices a.counts.corners) a.f a.p r.result (r.ensures a.cv.now a.co.now a.vc.now a.vm.now a.vp.now refl)) c.if-a-ne0.false (face_done (table a.cv.now a.co.now a.cm.now a.vc.now a.vm.now a.vp.now a.counts.vertices a.counts.corners) a.f a.p _ c.split_face-made.ensures)
+pub returns-clause-stepped : goal.returns-clause-stepped
+unfolding answer effect
+returns-clause-stepped c =
+    let a = c.args in
+    done _ (SplitFace a.f a.p) _ c.seen.ensures _ c.in_ok-split_face_answer.ensures c.split_face.ensures.table

@@ -4,25 +4,20 @@ use Rattle.traversal_lists.proofs.Answers.{answer_tangled, answer_short, has_roo
 use mathlib.Core.Path.{sym, ◌∙◌}
 use Rattle.traversal_lists.proofs.by_two_walks.Goals as goal
 
-pub count_walk-w-requires : goal.count_walk-w-requires
-count_walk-w-requires c = (c.requires.opposites, c.requires.marks)
-
 pub returns-then-not-has_room : goal.returns-then-not-has_room
-returns-then-not-has_room c = answer_short _ _ _ _ _ _ _ _ c.count_walk-w.ensures (sym c.has_room.ensures ∙ c.if-not-has_room.true) _ c.too_short.ensures _ c.refused.ensures
+returns-then-not-has_room c = answer_short _ _ _ _ _ _ _ _ c.count_walk-w.ensures (sym c.has_room.ensures ∙ c.if-not-has_room.true) _ c.too_short.ensures
 
 pub write_closed-requires : goal.write_closed-requires
 write_closed-requires c = record {
-  fit = c.requires;
   l_value = sym c.in-Closed.is ∙ c.count_walk-w.ensures;
   l_in_bounds = has_room _ _ _ _ c.has_room.ensures c.if-not-has_room.false _ c.in-Closed.is;
 }
 
 pub write_open-requires : goal.write_open-requires
 write_open-requires c = record {
-  fit = c.requires;
   r_value = sym c.in-Open.is ∙ c.count_walk-w.ensures;
   r_in_bounds = has_room _ _ _ _ c.has_room.ensures c.if-not-has_room.false _ c.in-Open.is;
 }
 
 pub returns-in-Tangled : goal.returns-in-Tangled
-returns-in-Tangled c = answer_tangled _ _ _ _ _ _ _ _ c.refused-in-Tangled.ensures (was_tangled _ _ _ _ (sym c.in-Tangled.is ∙ c.count_walk-w.ensures))
+returns-in-Tangled c = answer_tangled _ _ _ _ _ _ _ (was_tangled _ _ _ _ (sym c.in-Tangled.is ∙ c.count_walk-w.ensures))

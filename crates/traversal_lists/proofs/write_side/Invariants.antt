@@ -1,11 +1,8 @@
 use Rattle.traversal_lists.proofs.Loops.{Writing}
 use Rattle.traversal_lists.specs.Lists.{entry}
-use Prim.Native.Nat.{◌-◌}
 use lib.ListN.{length}
 use Rattle.traversal_lists.proofs.write_side.Given as goal
 
-abbrev pub invariant-loop-i : goal.invariant-loop-i
-invariant-loop-i l = Writing (entry l.kind l.cv l.left) l.left l.co (length l.cv) l.initial.list l.list l.first l.n l.o l.i l.at
-
-abbrev pub decreases-loop-i : goal.decreases-loop-i
-decreases-loop-i l = l.end - l.i
+abbrev pub invariant-loop-slot : goal.invariant-loop-slot
+invariant-loop-slot l =
+    Writing (entry l.kind l.on.cv.now l.left) l.left l.on.co.now (length l.on.cv.now) l.initial.list l.list 0 (length l.initial.list) l.o l.slot-index l.at

@@ -1,9 +1,9 @@
 -- `by_one_walk` meets its contract. Assumes nothing.
-use Rattle.traversal_short.proofs.Short.{tried_none}
+use mathlib.Core.Path.{refl}
+use Rattle.traversal_short.proofs.Short.{tried_back}
 use Rattle.traversal_short.proofs.by_one_walk.Goals as goal
 
-pub returns-then-list-lt16 : goal.returns-then-list-lt16
-returns-then-list-lt16 c = tried_none _ _ _ _
-
-pub returns-then-used-start : goal.returns-then-used-start
-returns-then-used-start c = tried_none _ _ _ _
+pub returns-then-is_none : goal.returns-then-is_none
+returns-then-is_none c =
+    tried_back _ _ _ _ _ _ c.if-is_none.ensures c.write_short_as-done.ensures _ _ c.copy_from_slice.ensures.after
+    (rw c.copy_from_slice-then-is_none.ensures.after refl)

@@ -1,34 +1,21 @@
-use Rattle.words.proofs.Loops.{written_none, written_more, written_length, written_all}
-use Rattle.words.specs.Words.{word_no}
-use lib.ListN.{length}
+use Rattle.words.proofs.Loops.{left_all, left_more, left_word, written_none, written_more}
 use native.Mathlib.Omega.{arith}
-use mathlib.Core.Path.{refl, ap, ◌∙◌}
+use mathlib.Core.Path.{◌∙◌}
+use Prim.Native.Nat.{◌+◌}
 use Rattle.words.proofs.decode.Goals as goal
 
 pub loop-k-init : goal.loop-k-init
-loop-k-init c = (omega arith, refl, written_none _ _ _)
-
-pub overflow_mul-k : goal.overflow_mul-k
-overflow_mul-k c = omega arith
-
-pub word_at-w-requires : goal.word_at-w-requires
-word_at-w-requires c = omega arith
-
-pub overflow_add-base : goal.overflow_add-base
-overflow_add-base c = omega arith
-
-pub overflow_add-k : goal.overflow_add-k
-overflow_add-k c = omega arith
-
-pub loop-k-smaller : goal.loop-k-smaller
-loop-k-smaller c = omega arith
+loop-k-init c =
+    rw (c.into_iter-k-iterator.ensures.into_iter_gives, c.enumerate-k-items.ensures.source, c.enumerate-k-items.ensures.count, c.chunks_exact.ensures.rest)
+    (c.chunks_exact.ensures.size, left_all _, written_none _ _ _)
 
 pub loop-k-preserved : goal.loop-k-preserved
-unfolding word_no
-loop-k-preserved c = (omega arith, refl, written_more _ _ _ c.loop-k.k _ _ _ _ c.loop-k.invariant.2 c.word_at-w.ensures refl c.put.ensures)
-
-pub shape_of-words : goal.shape_of-words
-shape_of-words c = ap length c.loop-k.invariant.2 ∙ written_length _ _ _ _
-
-pub returns : goal.returns
-returns c = written_all _ _ _ c.loop-k.k _ _ c.loop-k.invariant.2 (omega arith)
+loop-k-preserved c =
+    let a = c.in-Some.ensures.steps in
+    let i = c.loop-k.invariant in
+    rw a.2 (
+      a.0.0 ∙ i.0,
+      left_more _ _ _ _ _ i.1 a.0.1.0 (a.0.1.1 ∙ i.0),
+      written_more _ _ _ _ (c.args.base + c.in-Some.k) _ _ _ i.2
+          (c.word_of.ensures ∙ left_word _ _ _ _ _ i.1 a.0.1.0 (a.0.1.1 ∙ i.0)) (omega (arith, a.1)) c.put.ensures,
+    )

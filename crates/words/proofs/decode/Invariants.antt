@@ -1,11 +1,10 @@
+use Rattle.std.proofs.Common.{◌≡◌}
 use Rattle.words.specs.Words.{written, word_no}
-use lib.ListN.{length}
-use Prim.Native.Nat.{◌≤◌, ◌-◌, ◌/◌}
-use mathlib.Core.Path.{◌≡◌}
+use Rattle.words.proofs.Loops.{Left}
 use Rattle.words.proofs.decode.Given as goal
 
+-- after k turns 4 k bytes are read, and the first k words are written
 abbrev pub invariant-loop-k : goal.invariant-loop-k
-invariant-loop-k l = (l.k ≤ l.n) × (l.n ≡ length l.s / 4) × (l.words ≡ written l.k l.base (word_no l.s) l.initial.words)
-
-abbrev pub decreases-loop-k : goal.decreases-loop-k
-decreases-loop-k l = l.n - l.k
+invariant-loop-k l =
+    (l.k-iterator.iter.size ≡ 4) × Left l.s l.k-iterator.iter.rest.now l.k-iterator.count
+    × (l.words ≡ written l.k-iterator.count l.base (word_no l.s) l.initial.words)

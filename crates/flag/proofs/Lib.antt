@@ -1,2 +1,0 @@
--- Laws of the words that put tests together.
-pub mod Words

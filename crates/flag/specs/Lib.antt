@@ -1,2 +1,0 @@
--- The words that put tests together.
-pub mod Words

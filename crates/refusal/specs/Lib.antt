@@ -1,0 +1,2 @@
+-- The numbers that calls answer by.
+pub mod Refusal

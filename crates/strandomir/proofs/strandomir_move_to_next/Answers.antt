@@ -1,6 +1,0 @@
--- `strandomir::strandomir_move_to_next` meets its contract: `next_from` answers the definition, and `told` tells its step. Assumes nothing.
-use Rattle.strandomir.proofs.Moves.{moved_by}
-use Rattle.strandomir.proofs.strandomir_move_to_next.Goals as goal
-
-pub returns : goal.returns
-returns c = moved_by _ _ _ c.next_from-m.ensures c.told.ensures

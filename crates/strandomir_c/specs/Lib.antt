@@ -1,0 +1,2 @@
+-- The lent table in the contracts of the calls.
+pub mod Lent

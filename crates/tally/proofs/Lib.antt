@@ -1,2 +1,0 @@
--- Laws of counting.
-pub mod Counting

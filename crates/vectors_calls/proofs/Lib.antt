@@ -1,2 +1,0 @@
--- The laws behind the records that call.
-pub mod Calls

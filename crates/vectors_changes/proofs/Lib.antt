@@ -1,2 +1,0 @@
--- The laws behind the records that change the table.
-pub mod Changes
