@@ -134,6 +134,7 @@ impl Found {
 // ---- what is asked of a face
 
 impl Triangle {
+    // A count is of no kind: the numbers of vertices are held to it.
     pub fn known(self, count: u32) -> bool
         ensures { result ≡ known_of count self.a.0 self.b.0 self.c.0 }
     {
@@ -147,7 +148,8 @@ impl Triangle {
     }
 }
 
-// An index that is no vertex before two equal ones.
+// An index that is no vertex before two equal ones. The findings come as bools: which of the two refuses stands here alone, and the same of
+// the points below.
 pub fn refusal(unknown: bool, twice: bool) -> Result<(), Refusal>
     ensures { answer_of result ≡ cond unknown 2 (cond twice 3 0) }
 {

@@ -40,7 +40,7 @@ impl<'a> Used<'a> {
         None
     }
 
-    // o is live, and its opposite is c.
+    // o is live, and its opposite is c. (A count is of no kind: o's number is held to it.)
     #[tactic(auto, unfolding(table::specs::Table::live))]
     fn paired(&self, c: Corner, o: Corner) -> bool
         ensures { result ≡ (live self.now.t.cm.now self.now.t.corners o.0 && eqb (opposite_at self.now.t.co.now o.0) c.0) }

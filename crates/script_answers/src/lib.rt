@@ -15,7 +15,7 @@ use script_command::{corners_for, room_for, targeted};
 use table::Seen;
 use vertex::Point;
 
-// ---- the checks
+// ---- the checks: a count is of no kind, and a target's number is held to it
 
 fn corner_target(t: &Seen, c: Corner) -> Result<(), Refusal>
     ensures { answer_of result ≡ corner_target (seen t.now) c.0 }

@@ -100,6 +100,7 @@ fn put_entry(t: &mut Lent, w: &[u32])
 {
     let i = at(w, 1, 0) as usize;
     let v = at(w, 2, 0);
+    // A part's number is the stored list's.
     match at(w, 0, 0) {
         0 => put(t.cv, i, v),
         1 => put(t.co, i, v),

@@ -10,6 +10,7 @@ use std::fmt;
 use table::at;
 use words::{first, past};
 
+// What a record lists. It is data: the crates above match it.
 #[derive(Clone, Copy, PartialEq, Eq)]
 pub enum Op {
     Rooms,

@@ -68,7 +68,7 @@ fn swing(left: bool, t: &Seen, from: Corner) -> Result<Option<Corner>, Refusal>
     Ok(Some(step_to(t, o.turn_index(left))?))
 }
 
-// The refusals that every move begins with.
+// The refusals that every move begins with. A count is of no kind: the corner's number is held to it.
 #[tactic(auto, unfolding(crate::specs::Walker::refusal, crate::specs::Walker::standing))]
 fn stands(t: &Seen, corner: Corner) -> Result<(), Refusal>
     ensures { answer_of result ≡ refusal_of (seen t.now) corner.0 }
