@@ -16,7 +16,7 @@ use edit_plans::{Around, Triangle, read_around, read_triangle};
 use table::{Lent, put_new};
 use vertex::{Point, Vertex};
 
-// ---- what it writes, part by part
+// ---- what it writes, part by part: a border edge and an inner one have a plan and a drawing each
 
 // The old vertex moves to the new point, the new vertex takes the old place.
 #[tactic(auto, unfolding(crate::specs::SplitEdge::split_points))]

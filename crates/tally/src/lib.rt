@@ -25,7 +25,7 @@ fn count<F: Fn(u32) -> bool>(n: u32, passes: F) -> u32
 
 // ---- the table
 
-// A live corner without an opposite.
+// A live corner without an opposite; the next, one with. Each has a definition of its own.
 #[tactic(auto, unfolding(crate::specs::Tally::bare))]
 fn bare(t: &Seen, c: Corner) -> bool
     ensures { result ≡ bare_of t.now.co.now t.now.cm.now t.now.corners c.0 }

@@ -85,7 +85,8 @@ fn unmarked(cm: &[u32], b: usize) -> bool
     x == 0 && y == 0 && z == 0
 }
 
-// Whether the face that begins at slot b is used, and its three corners live.
+// Whether the face that begins at slot b is used, and its three corners live. This and the count of a walk take the parts that they read, and
+// no `Corners`, which asks for the vertices too.
 #[tactic(auto, using(crate::proofs::Steps::face_marks_lem, crate::proofs::Steps::face_out))]
 pub fn all_live(cm: &[u32], used: u32, b: usize) -> bool
     requires used_in_bounds { used ≤ length cm.now }
