@@ -25,7 +25,8 @@ use Rattle.builder_build.proofs.Grow.{paired_linked}
 use Rattle.builder_build.proofs.Folded.{Fine, faces_ready, start_ready}
 use Rattle.builder_build.proofs.Settle.{Whole}
 use Rattle.builder_faces.specs.Steps.{so_far}
-use Rattle.builder_fans.specs.Chains.{shared, shared_of, with_shared, with_vertex_mark, with_threads, Roomy, SameRooms, Threads, threads, threaded, marked, rings, spread_over, chains_of}
+use Rattle.builder_fans.specs.Chains.{shared, shared_of, with_shared, with_vertex_mark, with_threads, SameRooms}
+use Rattle.builder_fans.specs.Chains.{Threads, threads, threaded, marked, rings, spread_over, chains_of}
 use Rattle.builder_fans.proofs.Marks.{fast}
 use Rattle.builder.specs.Calls.{skipped_of, outcome, faces_in, Fresh, Begun}
 
@@ -63,11 +64,6 @@ module _ (t : Table) where
   chained_by u w p q = q ∙ ap (λ (x : Table). with_threads x (threaded x.corner_vertex x.corners (threads x.corner_mark x.vertex_mark))) p
 
 module _ (t : Table) (sk : ℕ) (G : Begun t sk) (w : Table) (e : w ≡ chained t) (Q : SameRooms t w) where
-  pub chained_roomy : Roomy w
-  chained_roomy =
-      let z : w.vertices ≡ t.vertices = ap (λ (x : Table). x.vertices) e in
-      record { most = omega (arith, Q.vm, G.small); few = omega (arith, Q.vm, z, G.ready.vertices) }
-
   module _ (points : List Float) (lay : t.vertex_point ≡ laid (vertex_room t) points) where
     abbrev rc : ℕ
     rc = corner_room t
@@ -101,22 +97,21 @@ module _ (t : Table) (sk : ℕ) (G : Begun t sk) (w : Table) (e : w ≡ chained 
         ∙ fast n rc rv nv (λ d. get_or t.corner_opposite d absent) (rings t) (ring_exact t.corner_opposite n L (λ d h. h)) (shared_of t) W G.ready.fits refl G.ready.vertices
         ∙ ap (λ (p : List Float). vertices (rings t) n nv 0 (shared t.corner_vertex t.vertex_corner p nv)) lay
 
-    pub finish_full : (a : ℕ) → a ≡ 5 → vertex_room w < (chains_of w w.vertices 0 (shared_of w)).nv
+    pub finish_full : (a : ℕ) → a ≡ 5 → rv < (chains_of w w.vertices 0 (shared_of w)).nv
         → refused_build rc rv a ≡ finish rc rv nv points (go (faces_in t sk))
     unfolding finish
     finish_full a p h =
-        let y : vertex_room w < S.nv = subst (λ (s : Shared). vertex_room w < s.nv) same h in
-        let z : rv < S.nv = omega (arith, Q.vm, y) in
+        let z : rv < S.nv = subst (λ (s : Shared). rv < s.nv) same h in
         rw (lt-ltb rv S.nv z, p)
 
-    pub finish_fits : (u : Table) → SameRooms w u → (u ≡ with_shared w (chains_of w w.vertices 0 (shared_of w))) × ((chains_of w w.vertices 0 (shared_of w)).nv ≤ vertex_room w)
+    pub finish_fits : (u : Table) → SameRooms w u
+        → (u ≡ with_shared w (chains_of w w.vertices 0 (shared_of w))) × ((chains_of w w.vertices 0 (shared_of w)).nv ≤ rv)
         → (cm vm : List ℕ) → cm ≡ replicate (length u.corner_mark) 0 → vm ≡ replicate (length u.vertex_mark) 0
         → (x : Table) → x ≡ with_vertex_mark (with_vertex_mark (with_corner_mark u cm) vm) (isolated u.vertex_corner u.vertices 0 vm)
         → built 0 sk x ≡ finish rc rv nv points (go (faces_in t sk))
     unfolding finish
     finish_fits u R g cm vm p q x d =
-        let y : S.nv ≤ vertex_room w = subst (λ (s : Shared). s.nv ≤ vertex_room w) same g.1 in
-        let z : S.nv ≤ rv = omega (arith, Q.vm, y) in
+        let z : S.nv ≤ rv = subst (λ (s : Shared). s.nv ≤ rv) same g.1 in
         rw (le-ltb rv S.nv z) (ap (built 0 sk) (d ∙ made))
       where
         left : u ≡ with_shared (chained t) S

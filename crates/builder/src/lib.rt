@@ -22,9 +22,10 @@ fn finish(t: &mut Lent, skipped: usize) -> Result<usize, Refusal>
         → outcome (lent t.old) result (lent t.new)
         ≡ finish_of (corner_room (lent t.old)) (vertex_room (lent t.old)) t.old.vertices points (go (faces_in (lent t.old) skipped)) }
 {
+    let room = t.vm.len() as u32;
     builder_fans::mark_fans(t);
     builder_fans::thread_left(t);
-    builder_fans::spread(t)?;
+    builder_fans::spread(t, room)?;
     t.cm.fill(0);
     t.vm.fill(0);
     builder_fans::isolate(t);

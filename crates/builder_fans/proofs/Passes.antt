@@ -13,7 +13,7 @@ use Rattle.refusal.specs.declared.Refusal.{Refusal}
 use Rattle.refusal.specs.Refusal.{number_of}
 use Rattle.table.specs.declared.Lent.{Lent}
 use Rattle.table.specs.Parts.{SameParts}
-use Rattle.table.specs.Table.{Table, vertex_room}
+use Rattle.table.specs.Table.{Table}
 use Rattle.vertex.specs.declared.Point.{Point}
 use Rattle.table.specs.Slots.{relabel, point_at, with_point}
 use Rattle.builder_build.specs.Build.{Shared, give, isolated}
@@ -70,17 +70,17 @@ pub given : (t : Table) (v c : ℕ) (cv' vc' : List ℕ) (vp' : List Float) (p :
 unfolding give
 given t v c cv' vc' vp' p a b d e = rw (a, b, e, d)
 
-module _ (t : Table) (v c x : ℕ) (is : x ≡ get_or t.corner_vertex c 0) where
-  pub step_not : t.vertices ≤ vertex_room t → (x ≡ v → ⊥) → Ended t (step_of (rings t) v c (shared_of t)) t (Ok (tt {0}))
+module _ (room : ℕ) (t : Table) (v c x : ℕ) (is : x ≡ get_or t.corner_vertex c 0) where
+  pub step_not : t.vertices ≤ room → (x ≡ v → ⊥) → Ended room t (step_of (rings t) v c (shared_of t)) t (Ok (tt {0}))
   unfolding step_of
   step_not l e = rw (← is, ne_eqb x v e) (refl, l)
 
-  pub step_full : x ≡ v → t.vertices ≡ vertex_room t → (u : Table) (e : Refusal) → number_of e ≡ 5 → Ended {A = Unit {0}} t (step_of (rings t) v c (shared_of t)) u (Err e)
+  pub step_full : x ≡ v → t.vertices ≡ room → (e : Refusal) → number_of e ≡ 5 → Ended {A = Unit {0}} room t (step_of (rings t) v c (shared_of t)) t (Err e)
   unfolding give step_of
-  step_full e z u r n = rw (← is, eq-eqb x v e) (n, omega arith)
+  step_full e z r n = rw (← is, eq-eqb x v e) (n, omega arith, refl)
 
-  pub step_gives : x ≡ v → t.vertices ≤ vertex_room t → (t.vertices ≡ vertex_room t → ⊥) → (u : Table)
-      → u ≡ with_shared t (give (rings t) v c (shared_of t)) → Ended t (step_of (rings t) v c (shared_of t)) u (Ok (tt {0}))
+  pub step_gives : x ≡ v → t.vertices ≤ room → (t.vertices ≡ room → ⊥) → (u : Table)
+      → u ≡ with_shared t (give (rings t) v c (shared_of t)) → Ended room t (step_of (rings t) v c (shared_of t)) u (Ok (tt {0}))
   unfolding give step_of
   step_gives e l z u g = rw (← is, eq-eqb x v e) (g, omega arith)
 
@@ -138,31 +138,31 @@ module _ (ring : ℕ → List ℕ) (v : ℕ) where
   takes_more c cs s = refl
 
 -- a loop along a chain of t₀ stands at h, with so many left
-pub record Taking (t₀ : Table) (v : ℕ) (whole : Shared) (h rest : ℕ) (t : Table) : Type 0 where
+pub record Taking (room : ℕ) (t₀ : Table) (v : ℕ) (whole : Shared) (h rest : ℕ) (t : Table) : Type 0 where
   pub rooms : SameRooms t₀ t
   pub frame : t ≡ with_shared t₀ (shared_of t)
-  pub few : t.vertices ≤ vertex_room t₀
+  pub few : t.vertices ≤ room
   pub small : h < 4294967296
   pub same : takes (rings t₀) v (chain t₀.corner_mark rest h) (shared_of t) ≡ whole
 
-pub taking_start : (t : Table) (v h : ℕ) → t.vertices ≤ vertex_room t → h < 4294967296 → Taking t v (chain_from t v h (shared_of t)) h t.corners t
-taking_start t v h l m = record { rooms = same_rooms t; frame = refl; few = l; small = m; same = refl }
+pub taking_start : (room : ℕ) (t : Table) (v h : ℕ) → t.vertices ≤ room → h < 4294967296 → Taking room t v (chain_from t v h (shared_of t)) h t.corners t
+taking_start room t v h l m = record { rooms = same_rooms t; frame = refl; few = l; small = m; same = refl }
 
-module _ (t₀ : Table) (v : ℕ) (whole : Shared) (h rest : ℕ) (t : Table) (T : Taking t₀ v whole h rest t) where
-  ended : chain t₀.corner_mark rest h ≡ [] → Ended t₀ whole t (Ok (tt {0}))
+module _ (room : ℕ) (t₀ : Table) (v : ℕ) (whole : Shared) (h rest : ℕ) (t : Table) (T : Taking room t₀ v whole h rest t) where
+  ended : chain t₀.corner_mark rest h ≡ [] → Ended room t₀ whole t (Ok (tt {0}))
   ended e = by (sym (takes_none (rings t₀) v (shared_of t)) ∙ sym (ap (λ (cs : List ℕ). takes (rings t₀) v cs (shared_of t)) e) ∙ T.same)
     where
-      by : shared_of t ≡ whole → Ended t₀ whole t (Ok (tt {0}))
-      by z = (T.frame ∙ ap (with_shared t₀) z, subst (λ (s : Shared). s.nv ≤ vertex_room t₀) z T.few)
+      by : shared_of t ≡ whole → Ended room t₀ whole t (Ok (tt {0}))
+      by z = (T.frame ∙ ap (with_shared t₀) z, subst (λ (s : Shared). s.nv ≤ room) z T.few)
 
-  pub taking_stop : h < 2 → Ended t₀ whole t (Ok (tt {0}))
+  pub taking_stop : h < 2 → Ended room t₀ whole t (Ok (tt {0}))
   taking_stop l = ended (chain_stop t₀.corner_mark rest h l)
 
-  pub taking_out : rest ≤ 0 → Ended t₀ whole t (Ok (tt {0}))
+  pub taking_out : rest ≤ 0 → Ended room t₀ whole t (Ok (tt {0}))
   taking_out l = ended (chain_out t₀.corner_mark rest h (omega arith))
 
-  pub taking_roomy : Roomy t₀ → Roomy t
-  taking_roomy R = record { most = omega (arith, T.rooms.vm, R.most); few = omega (arith, T.rooms.vm, T.few) }
+  pub taking_roomy : Roomy room t₀ → Roomy room t
+  taking_roomy R = record { most = R.most; few = T.few }
 
   module _ (a : 0 < rest) (l : 2 ≤ h) where
     on : takes (rings t₀) v (chain t₀.corner_mark (rest - 1) (get_or t₀.corner_mark (h - 2) 0)) (step_of (rings t₀) v (h - 2) (shared_of t)) ≡ whole
@@ -174,24 +174,23 @@ module _ (t₀ : Table) (v : ℕ) (whole : Shared) (h rest : ℕ) (t : Table) (T
     step_same : step_of (rings t) v (h - 2) (shared_of t) ≡ step_of (rings t₀) v (h - 2) (shared_of t)
     step_same = ap (λ (u : Table). step_of (rings u) v (h - 2) (shared_of t)) T.frame
 
-    pub taking_full : vertex_room t < (step_of (rings t) v (h - 2) (shared_of t)).nv → vertex_room t₀ < whole.nv
+    pub taking_full : room < (step_of (rings t) v (h - 2) (shared_of t)).nv → room < whole.nv
     taking_full g =
         rw (← on)
         (omega (
           arith,
-          subst (λ (s : Shared). vertex_room t < s.nv) step_same g,
-          T.rooms.vm,
+          subst (λ (s : Shared). room < s.nv) step_same g,
           takes_grow (rings t₀) v (chain t₀.corner_mark (rest - 1) (get_or t₀.corner_mark (h - 2) 0)) (step_of (rings t₀) v (h - 2) (shared_of t)),
         ))
 
     pub taking_on : (u : Table) → SameRooms t u
-        → (u ≡ with_shared t (step_of (rings t) v (h - 2) (shared_of t))) × ((step_of (rings t) v (h - 2) (shared_of t)).nv ≤ vertex_room t)
-        → (h' : ℕ) → h' ≡ get_or u.corner_mark (h - 2) 0 → h' < 4294967296 → Taking t₀ v whole h' (rest - 1) u
+        → (u ≡ with_shared t (step_of (rings t) v (h - 2) (shared_of t))) × ((step_of (rings t) v (h - 2) (shared_of t)).nv ≤ room)
+        → (h' : ℕ) → h' ≡ get_or u.corner_mark (h - 2) 0 → h' < 4294967296 → Taking room t₀ v whole h' (rest - 1) u
     taking_on u R g h' e m =
         record {
           rooms = rooms_on t₀ t u T.rooms R;
           frame = framed t₀ t u _ T.frame g.0;
-          few = omega (arith, ap (λ (w : Table). w.vertices) g.0, g.1, T.rooms.vm);
+          few = omega (arith, ap (λ (w : Table). w.vertices) g.0, g.1);
           small = m;
           same =
               ap (λ (k : ℕ). takes (rings t₀) v (chain t₀.corner_mark (rest - 1) k) (shared_of u))
@@ -216,10 +215,10 @@ module _ (ring : ℕ → List ℕ) (link head : List ℕ) (n : ℕ) where
   unfolding vertex_of
   vertex_grows v s = takes_grow ring v (chain link n (get_or head v 0)) s
 
-pub vertex_ends : {A : Type 0} (t : Table) (v h : ℕ) → h ≡ get_or t.vertex_mark v 0 → (u : Table) (r : Result A Refusal)
-    → Ended t (chain_from t v h (shared_of t)) u r → Ended t (chain_of t v (shared_of t)) u r
+pub vertex_ends : {A : Type 0} (room : ℕ) (t : Table) (v h : ℕ) → h ≡ get_or t.vertex_mark v 0 → (u : Table) (r : Result A Refusal)
+    → Ended room t (chain_from t v h (shared_of t)) u r → Ended room t (chain_of t v (shared_of t)) u r
 unfolding vertex_of
-vertex_ends t v h e u r E = rw (← e) E
+vertex_ends room t v h e u r E = rw (← e) E
 
 -- ---- deleted vertices
 

@@ -6,7 +6,7 @@ use native.Mathlib.Omega.{arith}
 use native.Mathlib.Numerals.{add-one}
 use native.Mathlib.Nat.{sub-zero}
 use Rattle.std.proofs.Common.{Ok}
-use Rattle.table.specs.Table.{Table, vertex_room}
+use Rattle.table.specs.Table.{Table}
 use Rattle.builder_build.specs.Build.{Shared}
 use Rattle.builder_fans.specs.Chains.{shared_of, with_shared, Roomy, SameRooms, Ended, rings, vertex_of, spread_over, chain_of, chains_of}
 use Rattle.builder_fans.proofs.Passes.{spread_over_zero, spread_over_suc, vertex_grows, same_rooms, rooms_on, framed}
@@ -33,7 +33,7 @@ spread_grows ring link head n (suc k) v s =
     rw (spread_over_suc ring link head n k v s)
     (omega (arith, vertex_grows ring link head n v s, spread_grows ring link head n k (suc v) (vertex_of ring link head n v s)))
 
-module _ (t₀ : Table) where
+module _ (room : ℕ) (t₀ : Table) where
   abbrev step : ℕ → Shared → Shared
   step = chain_of t₀
 
@@ -49,21 +49,21 @@ module _ (t₀ : Table) where
   pub record Running (whole : Shared) (i : ℕ) (t : Table) : Type 0 where
     pub rooms : SameRooms t₀ t
     pub frame : t ≡ with_shared t₀ (shared_of t)
-    pub few : t.vertices ≤ vertex_room t₀
+    pub few : t.vertices ≤ room
     pub same : run (t₀.vertices - i) i (shared_of t) ≡ whole
 
-  pub running_start : t₀.vertices ≤ vertex_room t₀ → Running (run t₀.vertices 0 (shared_of t₀)) 0 t₀
+  pub running_start : t₀.vertices ≤ room → Running (run t₀.vertices 0 (shared_of t₀)) 0 t₀
   running_start l = record { rooms = same_rooms t₀; frame = refl; few = l; same = run_start step run first more t₀.vertices (shared_of t₀) }
 
   module _ (whole : Shared) (i : ℕ) (t : Table) (R : Running whole i t) where
-    pub running_end : t₀.vertices ≤ i → Ended t₀ whole t (Ok (tt {0}))
+    pub running_end : t₀.vertices ≤ i → Ended room t₀ whole t (Ok (tt {0}))
     running_end h = by (sym (run_end step run first more t₀.vertices i (shared_of t) h) ∙ R.same)
       where
-        by : shared_of t ≡ whole → Ended t₀ whole t (Ok (tt {0}))
-        by z = (R.frame ∙ ap (with_shared t₀) z, subst (λ (s : Shared). s.nv ≤ vertex_room t₀) z R.few)
+        by : shared_of t ≡ whole → Ended room t₀ whole t (Ok (tt {0}))
+        by z = (R.frame ∙ ap (with_shared t₀) z, subst (λ (s : Shared). s.nv ≤ room) z R.few)
 
-    pub running_roomy : Roomy t₀ → Roomy t
-    running_roomy S = record { most = omega (arith, R.rooms.vm, S.most); few = omega (arith, R.rooms.vm, R.few) }
+    pub running_roomy : Roomy room t₀ → Roomy room t
+    running_roomy S = record { most = S.most; few = R.few }
 
     -- a step on t is one on t₀
     step_same : chain_of t i (shared_of t) ≡ step i (shared_of t)
@@ -73,22 +73,21 @@ module _ (t₀ : Table) where
       on : run (t₀.vertices - (i + 1)) (i + 1) (step i (shared_of t)) ≡ whole
       on = sym (run_next step run first more t₀.vertices i (shared_of t) h) ∙ R.same
 
-      pub running_full : vertex_room t < (chain_of t i (shared_of t)).nv → vertex_room t₀ < whole.nv
+      pub running_full : room < (chain_of t i (shared_of t)).nv → room < whole.nv
       running_full l =
           rw (← on)
           (omega (
             arith,
-            subst (λ (s : Shared). vertex_room t < s.nv) step_same l,
-            R.rooms.vm,
+            subst (λ (s : Shared). room < s.nv) step_same l,
             spread_grows (rings t₀) t₀.corner_mark t₀.vertex_mark t₀.corners (t₀.vertices - (i + 1)) (i + 1) (step i (shared_of t)),
           ))
 
       pub running_on : (u : Table) → SameRooms t u
-          → (u ≡ with_shared t (chain_of t i (shared_of t))) × ((chain_of t i (shared_of t)).nv ≤ vertex_room t) → Running whole (i + 1) u
+          → (u ≡ with_shared t (chain_of t i (shared_of t))) × ((chain_of t i (shared_of t)).nv ≤ room) → Running whole (i + 1) u
       running_on u S g =
           record {
             rooms = rooms_on t₀ t u R.rooms S;
             frame = framed t₀ t u _ R.frame g.0;
-            few = omega (arith, ap (λ (w : Table). w.vertices) g.0, g.1, R.rooms.vm);
+            few = omega (arith, ap (λ (w : Table). w.vertices) g.0, g.1);
             same = ap (run (t₀.vertices - (i + 1)) (i + 1)) (ap shared_of g.0 ∙ step_same) ∙ on;
           }

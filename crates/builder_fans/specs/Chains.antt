@@ -5,7 +5,7 @@ use Rattle.refusal.specs.declared.Refusal.{Refusal}
 use Rattle.refusal.specs.Refusal.{number_of}
 use Rattle.corner.specs.Corner.{absent}
 use Rattle.table.specs.Slots.{vertex_at, corner_at, relabel}
-use Rattle.table.specs.Table.{Table, table, with_corner_mark, vertex_room}
+use Rattle.table.specs.Table.{Table, table, with_corner_mark}
 use Rattle.ring.specs.Ring.{ring}
 use Rattle.builder_build.specs.Build.{Shared, give}
 
@@ -24,9 +24,9 @@ with_vertex_mark t l =
     table t.corner_vertex t.corner_opposite t.corner_mark t.vertex_corner l t.vertex_point t.vertices t.corners
 
 -- the vertices are within the room, and the room's slots have numbers
-pub record Roomy (t : Table) : Type 0 where
-  pub most : vertex_room t < absent
-  pub few : t.vertices ≤ vertex_room t
+pub record Roomy (room : ℕ) (t : Table) : Type 0 where
+  pub most : room < absent
+  pub few : t.vertices ≤ room
 
 -- each part is as long as it was
 pub record SameRooms (t u : Table) : Type 0 where
@@ -37,10 +37,10 @@ pub record SameRooms (t u : Table) : Type 0 where
   pub vm : length u.vertex_mark ≡ length t.vertex_mark
   pub vp : length u.vertex_point ≡ length t.vertex_point
 
--- what the code leaves of a pass over the table t that ends in s: all of it where its vertices fit, or else a refusal
-abbrev pub Ended : {A : Type 0} → Table → Shared → Table → Result A Refusal → Type 0
-Ended t s u (Ok _) = (u ≡ with_shared t s) × (s.nv ≤ vertex_room t)
-Ended t s u (Err e) = (number_of e ≡ 5) × (vertex_room t < s.nv)
+-- what the code leaves of a pass over the table t that ends in s: all of it where its vertices fit, or else a refusal, and t but for what is shared
+abbrev pub Ended : {A : Type 0} → ℕ → Table → Shared → Table → Result A Refusal → Type 0
+Ended room t s u (Ok _) = (u ≡ with_shared t s) × (s.nv ≤ room)
+Ended room t s u (Err e) = (number_of e ≡ 5) × (room < s.nv) × (u ≡ with_shared t (shared_of u))
 
 -- the corners' marks and the vertices' marks while they hold the chains
 pub record Threads : Type 0 where

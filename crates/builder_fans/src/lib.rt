@@ -92,16 +92,16 @@ fn give(t: &mut Lent, v: Vertex, c: Corner)
 }
 
 // One corner of the chain: where it is still v's, a new vertex, if there is room.
-fn one_corner(t: &mut Lent, v: Vertex, c: Corner) -> Result<(), Refusal>
-    requires { Roomy (lent t.old) }
+fn one_corner(t: &mut Lent, room: u32, v: Vertex, c: Corner) -> Result<(), Refusal>
+    requires { Roomy room (lent t.old) }
     ensures parts { SameParts t.old t.new }
     ensures rooms { SameRooms (lent t.old) (lent t.new) }
-    ensures ended { Ended (lent t.old) (step_of (rings (lent t.old)) v.0 c.0 (shared_of (lent t.old))) (lent t.new) result }
+    ensures ended { Ended room (lent t.old) (step_of (rings (lent t.old)) v.0 c.0 (shared_of (lent t.old))) (lent t.new) result }
 {
     if table::vertex_of(t.seen().cv, c) != v {
         return Ok(());
     }
-    if t.vertices as usize == t.vm.len() {
+    if t.vertices == room {
         return Err(Refusal::NoVertexRoom);
     }
     give(t, v, c);
@@ -109,11 +109,11 @@ fn one_corner(t: &mut Lent, v: Vertex, c: Corner) -> Result<(), Refusal>
 }
 
 // The corners of v's chain from first on.
-fn take_chain(t: &mut Lent, v: Vertex, first: u32) -> Result<(), Refusal>
-    requires { Roomy (lent t.old) }
+fn take_chain(t: &mut Lent, room: u32, v: Vertex, first: u32) -> Result<(), Refusal>
+    requires { Roomy room (lent t.old) }
     ensures parts { SameParts t.old t.new }
     ensures rooms { SameRooms (lent t.old) (lent t.new) }
-    ensures ended { Ended (lent t.old) (chain_from (lent t.old) v.0 first (shared_of (lent t.old))) (lent t.new) result }
+    ensures ended { Ended room (lent t.old) (chain_from (lent t.old) v.0 first (shared_of (lent t.old))) (lent t.new) result }
 {
     let mut h = first;
     for _step in 0..t.corners {
@@ -121,31 +121,31 @@ fn take_chain(t: &mut Lent, v: Vertex, first: u32) -> Result<(), Refusal>
             return Ok(());
         }
         let c = h - 2;
-        one_corner(t, v, Corner(c))?;
+        one_corner(t, room, v, Corner(c))?;
         h = table::at(t.seen().cm, c as usize, 0);
     }
     Ok(())
 }
 
-fn one_vertex(t: &mut Lent, v: Vertex) -> Result<(), Refusal>
-    requires { Roomy (lent t.old) }
+fn one_vertex(t: &mut Lent, room: u32, v: Vertex) -> Result<(), Refusal>
+    requires { Roomy room (lent t.old) }
     ensures parts { SameParts t.old t.new }
     ensures rooms { SameRooms (lent t.old) (lent t.new) }
-    ensures ended { Ended (lent t.old) (chain_of (lent t.old) v.0 (shared_of (lent t.old))) (lent t.new) result }
+    ensures ended { Ended room (lent t.old) (chain_of (lent t.old) v.0 (shared_of (lent t.old))) (lent t.new) result }
 {
     let first = table::at(t.seen().vm, v.0 as usize, 0);
-    take_chain(t, v, first)
+    take_chain(t, room, v, first)
 }
 
-// All vertices, ascending.
-pub fn spread(t: &mut Lent) -> Result<(), Refusal>
-    requires { Roomy (lent t.old) }
+// All vertices, ascending. How many there may be is given, and need not be what the parts hold. Refused or not, only what is shared changes.
+pub fn spread(t: &mut Lent, room: u32) -> Result<(), Refusal>
+    requires { Roomy room (lent t.old) }
     ensures parts { SameParts t.old t.new }
     ensures rooms { SameRooms (lent t.old) (lent t.new) }
-    ensures ended { Ended (lent t.old) (chains_of (lent t.old) t.old.vertices 0 (shared_of (lent t.old))) (lent t.new) result }
+    ensures ended { Ended room (lent t.old) (chains_of (lent t.old) t.old.vertices 0 (shared_of (lent t.old))) (lent t.new) result }
 {
     for v in 0..t.vertices {
-        one_vertex(t, Vertex(v))?;
+        one_vertex(t, room, Vertex(v))?;
     }
     Ok(())
 }

@@ -7,5 +7,5 @@ use Rattle.builder_fans.proofs.one_vertex.Goals as goal
 
 pub returns-clause-ended : goal.returns-clause-ended
 returns-clause-ended c =
-    vertex_ends (lent c.args.t.now) c.args.v.0 _ (c.at-first.ensures ∙ ap (λ (t : Table). get_or t.vertex_mark c.args.v.0 0) c.seen.ensures) _ _
+    vertex_ends c.args.room (lent c.args.t.now) c.args.v.0 _ (c.at-first.ensures ∙ ap (λ (t : Table). get_or t.vertex_mark c.args.v.0 0) c.seen.ensures) _ _
     c.take_chain.ensures.ended

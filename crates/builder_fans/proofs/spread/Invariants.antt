@@ -7,5 +7,5 @@ abbrev pub invariant-loop-v : goal.invariant-loop-v
 invariant-loop-v l =
     record {
       parts : SameParts l.initial.t l.t;
-      running : Running (lent l.initial.t) (chains_of (lent l.initial.t) l.initial.t.vertices 0 (shared_of (lent l.initial.t))) l.v (lent l.t);
+      running : Running l.fn.room (lent l.initial.t) (chains_of (lent l.initial.t) l.initial.t.vertices 0 (shared_of (lent l.initial.t))) l.v (lent l.t);
     }

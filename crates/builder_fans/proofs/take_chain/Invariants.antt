@@ -8,6 +8,6 @@ abbrev pub invariant-loop-step : goal.invariant-loop-step
 invariant-loop-step l =
     record {
       parts : SameParts l.initial.t l.t;
-      taking : Taking (lent l.initial.t) l.v.0 (chain_from (lent l.initial.t) l.v.0 l.first (shared_of (lent l.initial.t))) l.h
+      taking : Taking l.fn.room (lent l.initial.t) l.v.0 (chain_from (lent l.initial.t) l.v.0 l.first (shared_of (lent l.initial.t))) l.h
           (l.initial.t.corners - l._step) (lent l.t);
     }
