@@ -21,12 +21,14 @@ pub fn all_finite(points: &[f32]) -> bool
     points.iter().all(|x| vertex::is_finite(*x))
 }
 
-// The points into the first slots.
+// The points into the first slots. One by one: a copy of no fixed length by copy_from_slice is a call of memmove, which no caller need have.
 pub fn add_vertices(vp: &mut [f32], points: &[f32])
     requires { length points.now ≤ length vp.old }
     ensures { vp.new ≡ sets vp.old 0 points.now }
 {
-    vp[..points.len()].copy_from_slice(points);
+    for (k, x) in points.iter().enumerate() {
+        vp[k] = *x;
+    }
 }
 
 // ---- one face
