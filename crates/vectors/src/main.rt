@@ -2,7 +2,7 @@
 // many records of each op there are, how often each answer is listed, and how many records were wrong.
 #![tactic(auto)]
 
-ghost use Rattle.std.specs.Prelude.{◌≡◌, ◌≤◌, length};
+ghost use Rattle.std.specs.Prelude.{◌≡◌, ◌≤◌, length, drop};
 ghost use Rattle.vectors_list.specs.Op.{number_of};
 ghost use Rattle.vectors.specs.Places.{place_of, told};
 
@@ -29,7 +29,9 @@ fn load<R: Read>(from: &mut R, words: &mut [u32]) -> u32
 }
 
 // The records start after the 1,024 bytes of text.
-fn records(words: &[u32]) -> Records<'_> {
+fn records(words: &[u32]) -> Records<'_>
+    ensures { result.rest.now ≡ drop 256 words.now }
+{
     Records {
         rest: past(words, 256),
     }
@@ -37,30 +39,29 @@ fn records(words: &[u32]) -> Records<'_> {
 
 // ---- the replay
 
-// How many records are wrong: those that come out otherwise, and one that the end of the file cuts off.
-fn play<P: Print>(
-    rt: &P,
-    words: &[u32],
-    t: &mut Lent,
-    numbers: &mut [f32],
-    list: &mut [u32],
-) -> u32 {
+// How many records are wrong: those that come out otherwise, and one that the end of the file cuts off. Each takes a word, of which no more
+// are looked at than the buffer has: so they are counted, and the sum is not cut.
+fn play<P: Print>(rt: &P, words: &[u32], t: &mut Lent, numbers: &mut [f32], list: &mut [u32]) -> u32
+    ensures { result ≤ 409600 }
+{
     let mut rooms = Rooms::default();
     let mut wrong: u32 = 0;
-    for (k, record) in records(words).enumerate() {
+    for (k, record) in records(first(words, 409600)).enumerate() {
         let op = Op::from(record.op);
         rooms = rooms_after(op, record.words, rooms);
         let right = replay(op, rooms, t, record.words, numbers, list);
         if !(right && record.whole) {
             let _ = println!(rt; "wrong: record {k}, op {}", record.op);
-            wrong = wrong.saturating_add(1);
+            wrong += 1;
         }
     }
     wrong
 }
 
 // The parts at their largest, the numbers of the longest build, and the longest list.
-fn replay_all<P: Print>(rt: &P, words: &[u32]) -> u32 {
+fn replay_all<P: Print>(rt: &P, words: &[u32]) -> u32
+    ensures { result ≤ 409600 }
+{
     let mut cv = [0; 196608];
     let mut co = [0; 196608];
     let mut cm = [0; 196608];
@@ -148,7 +149,9 @@ fn say_tallies<P: Print>(rt: &P, words: &[u32]) {
 // ---- the job
 
 // The file is read, replayed and counted.
-fn replay_file<P: Print, R: Read>(rt: &P, from: &mut R, words: &mut [u32]) {
+fn replay_file<P: Print, R: Read>(rt: &P, from: &mut R, words: &mut [u32])
+    ensures { length words.new ≡ length words.old }
+{
     let n = load(from, words) as usize;
     let list = first(words, n);
     let wrong = replay_all(rt, list);

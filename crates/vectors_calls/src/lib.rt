@@ -28,16 +28,14 @@ use checker::Fault;
 use refusal::Refusal;
 use script::Unrun;
 use table::{Lent, Seen, at};
-use vectors_looks::three_are;
+use vectors_looks::{three_are, two_are};
 use words::{first, holds, past, put_numbers};
 
 // Whether word k and the next are the table's counts.
-#[tactic(auto, unfolding(vectors_looks::specs::Judge::two_are, vectors_looks::specs::Judge::word_is))]
 fn counts_are(t: &Seen, w: &[u32], k: u32) -> bool
     ensures { result ≡ two_are w.now k t.now.vertices t.now.corners }
 {
-    let i = k as usize;
-    at(w, i, 0) == t.vertices && at(w, i + 1, 0) == t.corners
+    two_are(w, k, t.vertices as usize, t.corners as usize)
 }
 
 // ---- 4 build
@@ -49,13 +47,13 @@ fn faces_of(w: &[u32]) -> &[u32]
     past(w, 5 + at(w, 4, 0) as usize)
 }
 
-#[tactic(auto, unfolding(crate::specs::Calls::built_as, vectors_looks::specs::Judge::two_are, vectors_looks::specs::Judge::word_is))]
+#[tactic(auto, unfolding(crate::specs::Calls::built_as))]
 fn built_as(built: Result<usize, Refusal>, t: &Seen, w: &[u32]) -> bool
     ensures { result ≡ built_as w.now (answer_of built) (skipped_of built) t.now.vertices t.now.corners }
 {
     let answer = refusal::answer(&built);
     let skipped = built.unwrap_or(0);
-    (at(w, 0, 0) == answer && at(w, 1, 0) as usize == skipped) && counts_are(t, w, 2)
+    two_are(w, 0, answer as usize, skipped) && counts_are(t, w, 2)
 }
 
 #[tactic(auto, unfolding(crate::specs::Calls::build_right))]
@@ -119,12 +117,14 @@ fn answers_sized(w: &[u32], n: usize) -> bool
 fn told_as(ran: Result<(), Unrun>, w: &[u32]) -> bool
     ensures { result ≡ three_are w.now 0 (answer_told ran) (rule_told ran) (slot_told ran) }
 {
-    let broken = Refusal::NotWellFormed.number();
+    let broken = Refusal::NotWellFormed.number() as usize;
     match ran {
         Ok(()) => three_are(w, 0, 0, 0, 0),
-        Err(Unrun::Misfit) => three_are(w, 0, Refusal::Misfit.number(), 0, 0),
-        Err(Unrun::Table(Fault::Parts)) => three_are(w, 0, Refusal::Parts.number(), 0, 0),
-        Err(Unrun::Table(Fault::Broken { rule, slot })) => three_are(w, 0, broken, rule, slot),
+        Err(Unrun::Misfit) => three_are(w, 0, Refusal::Misfit.number() as usize, 0, 0),
+        Err(Unrun::Table(Fault::Parts)) => three_are(w, 0, Refusal::Parts.number() as usize, 0, 0),
+        Err(Unrun::Table(Fault::Broken { rule, slot })) => {
+            three_are(w, 0, broken, rule as usize, slot as usize)
+        }
     }
 }
 

@@ -8,7 +8,7 @@ ghost use Rattle.checker.specs.Told.{told as verdict_told};
 ghost use Rattle.traversal_lists.specs.Outcome.{outcome};
 ghost use Rattle.walker.specs.Told.{told_step};
 ghost use Rattle.vectors_list.specs.Op.{number_of};
-ghost use Rattle.vectors_looks.specs.Judge.{three_are, checked_as, ringed_as, moved_as};
+ghost use Rattle.vectors_looks.specs.Judge.{two_are, three_are, checked_as, ringed_as, moved_as};
 ghost use Rattle.vectors_looks.specs.Look.{
   ring_kind_of,
   move_kind_of,
@@ -37,13 +37,20 @@ use words::{first, hold_numbers, holds, past};
 
 // ---- what is listed
 
-// Whether the three words from k on are these.
-#[tactic(auto, unfolding(crate::specs::Judge::three_are, crate::specs::Judge::two_are, crate::specs::Judge::word_is))]
-pub fn three_are(w: &[u32], k: u32, a: u32, b: u32, c: u32) -> bool
-    ensures { result ≡ three_are w.now k a b c }
+// Whether the words from k on are these.
+#[tactic(auto, unfolding(crate::specs::Judge::two_are, crate::specs::Judge::word_is))]
+pub fn two_are(w: &[u32], k: u32, a: usize, b: usize) -> bool
+    ensures { result ≡ two_are w.now k a b }
 {
     let i = k as usize;
-    at(w, i, 0) == a && at(w, i + 1, 0) == b && at(w, i + 2, 0) == c
+    at(w, i, 0) as usize == a && at(w, i + 1, 0) as usize == b
+}
+
+#[tactic(auto, unfolding(crate::specs::Judge::three_are, crate::specs::Judge::word_is))]
+pub fn three_are(w: &[u32], k: u32, a: usize, b: usize, c: usize) -> bool
+    ensures { result ≡ three_are w.now k a b c }
+{
+    two_are(w, k, a, b) && at(w, k as usize + 2, 0) as usize == c
 }
 
 #[tactic(auto, unfolding(crate::specs::Judge::checked_as))]
@@ -52,13 +59,13 @@ fn checked_as(found: Result<(), Fault>, w: &[u32]) -> bool
 {
     match found {
         Ok(()) => three_are(w, 0, 0, 0, 0),
-        Err(Fault::Parts) => three_are(w, 0, Refusal::Parts.number(), 0, 0),
+        Err(Fault::Parts) => three_are(w, 0, Refusal::Parts.number() as usize, 0, 0),
         Err(Fault::Broken { rule, slot }) => three_are(
             w,
             0,
-            Refusal::NotWellFormed.number(),
-            rule,
-            slot,
+            Refusal::NotWellFormed.number() as usize,
+            rule as usize,
+            slot as usize,
         ),
     }
 }
@@ -68,8 +75,8 @@ fn moved_as(went: Result<bool, Refusal>, there: Corner, w: &[u32]) -> bool
     ensures { result ≡ moved_as w.now (record { corner = there; step = told_step went }) }
 {
     match went {
-        Ok(moved) => three_are(w, 2, 0, u32::from(moved), there.0),
-        Err(e) => three_are(w, 2, e.number(), 0, there.0),
+        Ok(moved) => three_are(w, 2, 0, usize::from(moved), there.0 as usize),
+        Err(e) => three_are(w, 2, e.number() as usize, 0, there.0 as usize),
     }
 }
 
@@ -104,8 +111,8 @@ fn ringed_as(ring: &Result<Ring, Refusal>, w: &[u32]) -> bool
     ensures { (list : List ℕ) → result ≡ ringed_as w.now (outcome ring.now list).answer (outcome ring.now list).visited (outcome ring.now list).written }
 {
     match ring {
-        Ok(r) => three_are(w, 2, 0, r.visited, r.written),
-        Err(e) => three_are(w, 2, e.number(), 0, 0),
+        Ok(r) => three_are(w, 2, 0, r.visited as usize, r.written as usize),
+        Err(e) => three_are(w, 2, e.number() as usize, 0, 0),
     }
 }
 
