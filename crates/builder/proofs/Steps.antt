@@ -25,7 +25,7 @@ use Rattle.builder_build.proofs.Grow.{paired_linked}
 use Rattle.builder_build.proofs.Folded.{Fine, faces_ready, start_ready}
 use Rattle.builder_build.proofs.Settle.{Whole}
 use Rattle.builder_faces.specs.Steps.{so_far}
-use Rattle.builder_fans.specs.Chains.{shared, shared_of, with_shared, with_vertex_mark, with_threads, SameRooms}
+use Rattle.builder_fans.specs.Chains.{shared, shared_of, with_shared, with_vertex_mark, with_threads, Roomy, SameRooms}
 use Rattle.builder_fans.specs.Chains.{Threads, threads, threaded, marked, rings, spread_over, chains_of}
 use Rattle.builder_fans.proofs.Marks.{fast}
 use Rattle.builder.specs.Calls.{skipped_of, outcome, faces_in, Fresh, Begun}
@@ -64,6 +64,12 @@ module _ (t : Table) where
   chained_by u w p q = q ∙ ap (λ (x : Table). with_threads x (threaded x.corner_vertex x.corners (threads x.corner_mark x.vertex_mark))) p
 
 module _ (t : Table) (sk : ℕ) (G : Begun t sk) (w : Table) (e : w ≡ chained t) (Q : SameRooms t w) where
+  -- what spread asks, at the room that the marks are
+  pub chained_roomy : Roomy (vertex_room w) w
+  chained_roomy =
+      let z : w.vertices ≡ t.vertices = ap (λ (x : Table). x.vertices) e in
+      record { most = omega (arith, Q.vm, G.small); few = omega (arith, Q.vm, z, G.ready.vertices) }
+
   module _ (points : List Float) (lay : t.vertex_point ≡ laid (vertex_room t) points) where
     abbrev rc : ℕ
     rc = corner_room t
